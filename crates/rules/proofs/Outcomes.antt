@@ -1,0 +1,15 @@
+-- Tests in a row, by what the first one answers.
+use mathlib.Core.Path.{_≡_, refl, sym}
+use Prim.Native.Nat.{ℕ}
+use native.Mathlib.Omega.{arith}
+use Rattle.std.specs.declared.result.Result.the-variants.{Ok, Err}
+use Rattle.rules.specs.declared.refusal.Refusal.{Refusal}
+use Rattle.rules.specs.Outcome.{Outcome, _>>=_, answered, left}
+
+pub bind-granted : {A B : Type 0} (a : A) (o : Outcome A) (f : A → Outcome B) → Ok tt ≡ answered o → (o >>= f) ≡ f (left a o)
+bind-granted a (Ok b) f e = refl
+bind-granted a (Err x) f e = let z : _≡_ {A = ℕ} 0 1 = cc in absurd (omega arith)
+
+pub bind-refused : {A B : Type 0} (o : Outcome A) (x : Refusal) (f : A → Outcome B) → Err x ≡ answered o → (o >>= f) ≡ Err x
+bind-refused (Ok b) x f e = let z : _≡_ {A = ℕ} 0 1 = cc in absurd (omega arith)
+bind-refused (Err y) x f e = cc

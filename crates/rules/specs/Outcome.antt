@@ -1,0 +1,36 @@
+-- Tests in a row: the first that fails refuses.
+use mathlib.Core.Bool.{Bool, true, false}
+use Prim.Native.Nat.{ℕ}
+use Rattle.std.specs.declared.option.Option.{Option}
+use Rattle.std.specs.declared.option.Option.the-variants.{Some, None}
+use Rattle.std.specs.declared.result.Result.{Result}
+use Rattle.std.specs.declared.result.Result.the-variants.{Ok, Err}
+use Rattle.rules.specs.declared.refusal.Refusal.{Refusal}
+
+-- what was asked for, or why not
+abbrev pub Outcome : Type 0 → Type 0
+Outcome A = Result A Refusal
+
+infixl 1 _>>=_
+abbrev pub _>>=_ : {A B : Type 0} → Outcome A → (A → Outcome B) → Outcome B
+Ok a >>= f = f a
+Err e >>= f = Err e
+
+abbrev pub need : Bool → Refusal → Outcome Unit
+need true e = Ok tt
+need false e = Err e
+
+-- refused by what is found
+abbrev pub none-such : Option ℕ → (ℕ → Refusal) → Outcome Unit
+none-such None e = Ok tt
+none-such (Some i) e = Err (e i)
+
+-- the answer alone
+abbrev pub answered : {A : Type 0} → Outcome A → Outcome Unit
+answered (Ok a) = Ok tt
+answered (Err e) = Err e
+
+-- what is left of a: what was granted, or a as it was
+abbrev pub left : {A : Type 0} → A → Outcome A → A
+left a (Ok b) = b
+left a (Err e) = a

@@ -1,11 +1,15 @@
 -- Tests in a row: the first that fails refuses.
+use mathlib.Core.Path.{_≡_}
 use mathlib.Core.Bool.{Bool, true, false}
 use Prim.Native.Nat.{ℕ}
 use Rattle.std.specs.declared.option.Option.{Option}
 use Rattle.std.specs.declared.option.Option.the-variants.{Some, None}
 use Rattle.std.specs.declared.result.Result.{Result}
 use Rattle.std.specs.declared.result.Result.the-variants.{Ok, Err}
+use Rattle.std.specs.Results.{isOk}
 use Rattle.rules.specs.declared.refusal.Refusal.{Refusal}
+use Rattle.rules.specs.declared.failure.Failure.{Failure}
+use Rattle.rules.specs.declared.failure.Failure.the-variants.{Refused, Memory}
 
 -- what was asked for, or why not
 abbrev pub Outcome : Type 0 → Type 0
@@ -34,3 +38,9 @@ answered (Err e) = Err e
 abbrev pub left : {A : Type 0} → A → Outcome A → A
 left a (Ok b) = b
 left a (Err e) = a
+
+-- a call on a that the rules let come to o answered r and left b: want of memory leaves a as it was
+abbrev pub Came : {A : Type 0} → A → Outcome A → Result Unit Failure → A → Type 0
+Came a o (Ok _) b = o ≡ Ok b
+Came a o (Err (Refused e)) b = (o ≡ Err e) × (b ≡ a)
+Came a o (Err Memory) b = (isOk o ≡ true) × (b ≡ a)

@@ -1,0 +1,127 @@
+//! What the desk answers.
+ghost use mathlib.Core.Path.{_≡_};
+ghost use Rattle.desk.specs.Answers.{denied, failed, troubled};
+use net::Marking;
+use rules::Failure;
+use rules::Refusal;
+use rules::RefusalDisplay;
+use rules::ToldDisplay;
+use std::fmt;
+use text::ProblemDisplay as TextProblemDisplay;
+
+/// Why the desk could not make a call of a line.
+#[derive(Clone, Copy)]
+pub enum Problem {
+    Words { problem: text::Problem },
+    UnknownCommand,
+    LongLine,
+    NoText,
+    NoDraft,
+    NoNet,
+    Memory,
+}
+
+/// What a granted command answers.
+#[derive(Clone, Copy)]
+pub enum Grant {
+    Done,
+    Sealed { places: usize, cues: usize },
+    Number { number: usize },
+    Marked { places: usize, marking: Marking },
+    Help,
+    Quit,
+}
+
+/// Why a command was not granted: the library refused, or no call was made.
+#[derive(Clone, Copy)]
+pub enum Denial {
+    Refused { refusal: Refusal },
+    Error { problem: Problem },
+}
+
+pub impl From<Refusal> for Denial as DenialFromRefusal {
+    ghost converts = { λ e r. r ≡ denied e };
+
+    fn from(refusal: Refusal) -> Denial {
+        Denial::Refused { refusal }
+    }
+}
+
+pub impl From<Problem> for Denial as DenialFromProblem {
+    ghost converts = { λ e r. r ≡ troubled e };
+
+    fn from(problem: Problem) -> Denial {
+        Denial::Error { problem }
+    }
+}
+
+pub impl From<Failure> for Denial as DenialFromFailure {
+    ghost converts = { λ e r. r ≡ failed e };
+
+    fn from(failure: Failure) -> Denial {
+        match failure {
+            Failure::Refused(refusal) => Denial::Refused { refusal },
+            Failure::Memory => Denial::Error { problem: Problem::Memory },
+        }
+    }
+}
+
+/// The words for an operator.
+pub impl fmt::Display for Problem as ProblemDisplay {
+    fn fmt<W: fmt::Write>(&self, f: &mut fmt::Formatter<W>) -> fmt::Result {
+        match *self {
+            Problem::Words { problem } => write!(f, "{problem}"),
+            Problem::UnknownCommand => write!(f, "no such command; help lists them"),
+            Problem::LongLine => write!(f, "this line is longer than 4096 bytes"),
+            Problem::NoText => write!(f, "this line is not text"),
+            Problem::NoDraft => write!(f, "no net is being drafted; begin one with net arcs"),
+            Problem::NoNet => write!(f, "no net is sealed"),
+            Problem::Memory => write!(f, "out of memory"),
+        }
+    }
+}
+
+pub impl fmt::Display for Denial as DenialDisplay {
+    fn fmt<W: fmt::Write>(&self, f: &mut fmt::Formatter<W>) -> fmt::Result {
+        match *self {
+            Denial::Refused { refusal } => {
+                let told = refusal.tell();
+                write!(f, "{told}: {refusal}")
+            }
+            Denial::Error { problem } => write!(f, "error: {problem}"),
+        }
+    }
+}
+
+pub impl fmt::Display for Grant as GrantDisplay {
+    fn fmt<W: fmt::Write>(&self, f: &mut fmt::Formatter<W>) -> fmt::Result {
+        match *self {
+            Grant::Done => write!(f, "ok"),
+            Grant::Sealed { places, cues } => write!(f, "ok places {places} cues {cues}"),
+            Grant::Number { number } => write!(f, "ok {number}"),
+            Grant::Marked { places, marking } => {
+                write!(f, "ok marking")?;
+                for place in 0..places {
+                    let tokens = marking.tokens(place);
+                    write!(f, " {tokens}")?;
+                }
+                Ok(())
+            }
+            Grant::Help => write!(f, "{HELP}"),
+            Grant::Quit => write!(f, "ok"),
+        }
+    }
+}
+
+/// A line for each command.
+const HELP: &str = "# net arcs PLACES START ...   begin an arc net with a start count for each place
+# arc CUE PLACE TAKEN GIVEN   add an arc, in rising order of cue, then place
+# seal net                    end the draft; the net is then only asked
+# ask net places              how many places the sealed net has
+# ask net cues                how many cues it has
+# ask net taken PLACE CUE     tokens that a cue takes from a place
+# ask net given PLACE CUE     tokens that a cue gives to a place
+# ask net start PLACE         tokens on a place at the start
+# rehearse CUE ...            fire cues from the start, on a marking in no show
+# help                        this list
+# quit                        end";

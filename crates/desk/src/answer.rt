@@ -61,7 +61,9 @@ pub impl From<Failure> for Denial as DenialFromFailure {
     fn from(failure: Failure) -> Denial {
         match failure {
             Failure::Refused(refusal) => Denial::Refused { refusal },
-            Failure::Memory => Denial::Error { problem: Problem::Memory },
+            Failure::Memory => Denial::Error {
+                problem: Problem::Memory,
+            },
         }
     }
 }

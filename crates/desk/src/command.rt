@@ -13,11 +13,23 @@ pub enum Question {
 /// A command, with its numbers as they were written.
 #[derive(Drop)]
 pub enum Command {
-    NetArcs { places: usize, starts: Vec<u32> },
-    Arc { cue: usize, place: usize, taken: u32, given: u32 },
+    NetArcs {
+        places: usize,
+        starts: Vec<u32>,
+    },
+    Arc {
+        cue: usize,
+        place: usize,
+        taken: u32,
+        given: u32,
+    },
     SealNet,
-    AskNet { question: Question },
-    Rehearse { cues: Vec<u32> },
+    AskNet {
+        question: Question,
+    },
+    Rehearse {
+        cues: Vec<u32>,
+    },
     Help,
     Quit,
 }

@@ -24,14 +24,23 @@ pub struct Desk {
 
 impl Desk {
     pub fn new(heap: Global) -> Desk {
-        Desk { heap, draft: None, net: None }
+        Desk {
+            heap,
+            draft: None,
+            net: None,
+        }
     }
 
     /// Makes the call that a command asks for.
     pub fn obey(&mut self, command: &Command) -> Result<Grant, Denial> {
         match command {
             Command::NetArcs { places, starts } => self.begin(*places, starts),
-            Command::Arc { cue, place, taken, given } => self.add(*cue, *place, *taken, *given),
+            Command::Arc {
+                cue,
+                place,
+                taken,
+                given,
+            } => self.add(*cue, *place, *taken, *given),
             Command::SealNet => self.seal(),
             Command::AskNet { question } => self.ask(*question),
             Command::Rehearse { cues } => self.rehearse(cues),
@@ -49,7 +58,9 @@ impl Desk {
 
     fn add(&mut self, cue: usize, place: usize, taken: u32, given: u32) -> Result<Grant, Denial> {
         let Some(draft) = &mut self.draft else {
-            return Err(Denial::Error { problem: Problem::NoDraft });
+            return Err(Denial::Error {
+                problem: Problem::NoDraft,
+            });
         };
         draft.add(cue, place, taken, given)?;
         Ok(Grant::Done)
@@ -57,21 +68,28 @@ impl Desk {
 
     fn seal(&mut self) -> Result<Grant, Denial> {
         let Some(draft) = self.draft.take() else {
-            return Err(Denial::Error { problem: Problem::NoDraft });
+            return Err(Denial::Error {
+                problem: Problem::NoDraft,
+            });
         };
         if let Err(refusal) = draft.can_seal() {
             self.draft = Some(draft);
             return Err(Denial::Refused { refusal });
         }
         let net = draft.seal();
-        let grant = Grant::Sealed { places: net.places(), cues: net.cues() };
+        let grant = Grant::Sealed {
+            places: net.places(),
+            cues: net.cues(),
+        };
         self.net = Some(net);
         Ok(grant)
     }
 
     fn ask(&self, question: Question) -> Result<Grant, Denial> {
         let Some(net) = &self.net else {
-            return Err(Denial::Error { problem: Problem::NoNet });
+            return Err(Denial::Error {
+                problem: Problem::NoNet,
+            });
         };
         let number = match question {
             Question::Taken { place, cue } => usize::from(net.taken(place, cue)),
@@ -85,9 +103,14 @@ impl Desk {
 
     fn rehearse(&self, cues: &[u32]) -> Result<Grant, Denial> {
         let Some(net) = &self.net else {
-            return Err(Denial::Error { problem: Problem::NoNet });
+            return Err(Denial::Error {
+                problem: Problem::NoNet,
+            });
         };
         let marking = rehearse(net, cues)?;
-        Ok(Grant::Marked { places: net.places(), marking })
+        Ok(Grant::Marked {
+            places: net.places(),
+            marking,
+        })
     }
 }

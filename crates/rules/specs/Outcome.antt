@@ -16,7 +16,7 @@ abbrev pub Outcome : Type 0 → Type 0
 Outcome A = Result A Refusal
 
 infixl 1 _>>=_
-abbrev pub _>>=_ : {A B : Type 0} → Outcome A → (A → Outcome B) → Outcome B
+abbrev pub _>>=_ : {A B E : Type 0} → Result A E → (A → Result B E) → Result B E
 Ok a >>= f = f a
 Err e >>= f = Err e
 

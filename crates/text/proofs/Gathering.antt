@@ -5,7 +5,8 @@ use Prim.Native.Nat.{ℕ}
 use native.Mathlib.Omega.{arith}
 use Rattle.std.specs.declared.option.Option.the-variants.{Some, None}
 use Rattle.std.specs.declared.result.Result.the-variants.{Ok, Err}
-use Rattle.text.specs.Reading.{Read, _>>=_, as-number, all-numbers}
+use Rattle.rules.specs.Outcome.{_>>=_}
+use Rattle.text.specs.Reading.{Read, as-number, all-numbers}
 use Rattle.text.specs.Words.{head, tail}
 use Rattle.text.specs.declared.problem.Problem.{Problem}
 

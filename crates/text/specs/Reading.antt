@@ -4,6 +4,7 @@ use Prim.Native.Nat.{ℕ}
 use Rattle.std.specs.Options.{okOr}
 use Rattle.std.specs.declared.result.Result.{Result}
 use Rattle.std.specs.declared.result.Result.the-variants.{Ok, Err}
+use Rattle.rules.specs.Outcome.{_>>=_}
 use Rattle.text.specs.Numbers.{number}
 use Rattle.text.specs.declared.problem.Problem.{Problem}
 use Rattle.text.specs.declared.problem.Problem.the-variants.{Missing, NotANumber, Surplus}
@@ -11,11 +12,6 @@ use Rattle.text.specs.declared.problem.Problem.the-variants.{Missing, NotANumb
 -- what was read, or what is wrong
 abbrev pub Read : Type 0 → Type 0
 Read A = Result A Problem
-
-infixl 1 _>>=_
-abbrev pub _>>=_ : {A B : Type 0} → Read A → (A → Read B) → Read B
-Ok a >>= f = f a
-Err e >>= f = Err e
 
 abbrev pub as-number : List ℕ → Read ℕ
 as-number w = okOr (number w) NotANumber

@@ -1,25 +1,15 @@
 //! What the desk answers.
 ghost use mathlib.Core.Path.{_≡_};
-ghost use Rattle.desk.specs.Answers.{denied, failed, troubled};
+ghost use Rattle.desk.specs.Denials.{failed};
+ghost use Rattle.desk.specs.declared.answer.Denial.the-variants.{Refused as Refused′, Unread as Unread′};
 use net::Marking;
 use rules::Failure;
 use rules::Refusal;
 use rules::RefusalDisplay;
 use rules::ToldDisplay;
 use std::fmt;
-use text::ProblemDisplay as TextProblemDisplay;
-
-/// Why the desk could not make a call of a line.
-#[derive(Clone, Copy)]
-pub enum Problem {
-    Words { problem: text::Problem },
-    UnknownCommand,
-    LongLine,
-    NoText,
-    NoDraft,
-    NoNet,
-    Memory,
-}
+use text::Problem;
+use text::ProblemDisplay;
 
 /// What a granted command answers.
 #[derive(Clone, Copy)]
@@ -32,15 +22,18 @@ pub enum Grant {
     Quit,
 }
 
-/// Why a command was not granted: the library refused, or no call was made.
+/// Why a command was not granted: the library refused it, or no call was made.
 #[derive(Clone, Copy)]
 pub enum Denial {
     Refused { refusal: Refusal },
-    Error { problem: Problem },
+    Unread { problem: Problem },
+    NoDraft,
+    NoNet,
+    Memory,
 }
 
 pub impl From<Refusal> for Denial as DenialFromRefusal {
-    ghost converts = { λ e r. r ≡ denied e };
+    ghost converts = { λ e r. r ≡ Refused′ e };
 
     fn from(refusal: Refusal) -> Denial {
         Denial::Refused { refusal }
@@ -48,10 +41,10 @@ pub impl From<Refusal> for Denial as DenialFromRefusal {
 }
 
 pub impl From<Problem> for Denial as DenialFromProblem {
-    ghost converts = { λ e r. r ≡ troubled e };
+    ghost converts = { λ e r. r ≡ Unread′ e };
 
     fn from(problem: Problem) -> Denial {
-        Denial::Error { problem }
+        Denial::Unread { problem }
     }
 }
 
@@ -61,24 +54,7 @@ pub impl From<Failure> for Denial as DenialFromFailure {
     fn from(failure: Failure) -> Denial {
         match failure {
             Failure::Refused(refusal) => Denial::Refused { refusal },
-            Failure::Memory => Denial::Error {
-                problem: Problem::Memory,
-            },
-        }
-    }
-}
-
-/// The words for an operator.
-pub impl fmt::Display for Problem as ProblemDisplay {
-    fn fmt<W: fmt::Write>(&self, f: &mut fmt::Formatter<W>) -> fmt::Result {
-        match *self {
-            Problem::Words { problem } => write!(f, "{problem}"),
-            Problem::UnknownCommand => write!(f, "no such command; help lists them"),
-            Problem::LongLine => write!(f, "this line is longer than 4096 bytes"),
-            Problem::NoText => write!(f, "this line is not text"),
-            Problem::NoDraft => write!(f, "no net is being drafted; begin one with net arcs"),
-            Problem::NoNet => write!(f, "no net is sealed"),
-            Problem::Memory => write!(f, "out of memory"),
+            Failure::Memory => Denial::Memory,
         }
     }
 }
@@ -90,7 +66,10 @@ pub impl fmt::Display for Denial as DenialDisplay {
                 let told = refusal.tell();
                 write!(f, "{told}: {refusal}")
             }
-            Denial::Error { problem } => write!(f, "error: {problem}"),
+            Denial::Unread { problem } => write!(f, "error: {problem}"),
+            Denial::NoDraft => write!(f, "error: no net is being drafted; net arcs begins one"),
+            Denial::NoNet => write!(f, "error: no net is sealed; draft one and seal it"),
+            Denial::Memory => write!(f, "error: out of memory"),
         }
     }
 }
@@ -116,14 +95,15 @@ pub impl fmt::Display for Grant as GrantDisplay {
 }
 
 /// A line for each command.
-const HELP: &str = "# net arcs PLACES START ...   begin an arc net with a start count for each place
+const HELP: &str =
+    "# net arcs PLACES START ...   begin an arc net, with a start count for each place
 # arc CUE PLACE TAKEN GIVEN   add an arc, in rising order of cue, then place
 # seal net                    end the draft; the net is then only asked
 # ask net places              how many places the sealed net has
 # ask net cues                how many cues it has
-# ask net taken PLACE CUE     tokens that a cue takes from a place
-# ask net given PLACE CUE     tokens that a cue gives to a place
-# ask net start PLACE         tokens on a place at the start
-# rehearse CUE ...            fire cues from the start, on a marking in no show
+# ask net taken PLACE CUE     how many tokens a cue takes from a place
+# ask net given PLACE CUE     how many tokens a cue gives to a place
+# ask net start PLACE         how many tokens a place has at the start
+# rehearse CUE ...            fire cues from the start, on a marking of its own
 # help                        this list
 # quit                        end";

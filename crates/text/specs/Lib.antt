@@ -1,3 +1,5 @@
+pub mod Limits
+pub mod Lines
 pub mod Words
 pub mod Numbers
 pub mod Names

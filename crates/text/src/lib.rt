@@ -1,4 +1,6 @@
 //! Words, numbers and names read from a line of bytes.
+mod limits;
+mod line;
 mod names;
 mod numbers;
 mod problem;
@@ -6,6 +8,7 @@ mod problem;
 mod tests;
 mod words;
 
+pub use line::Line;
 pub use names::same;
 pub use numbers::number;
 pub use numbers::signed;

@@ -1,3 +1,3 @@
 pub mod Orders
-pub mod Denials
+pub mod Answers
 pub mod Desk

@@ -1,6 +1,6 @@
 //! What the desk answers.
 ghost use mathlib.Core.Path.{_≡_};
-ghost use Rattle.desk.specs.Denials.{failed};
+ghost use Rattle.desk.specs.Answers.{ends as ends-of, failed};
 ghost use Rattle.desk.specs.declared.answer.Denial.the-variants.{Refused as Refused′, Unread as Unread′};
 use net::Marking;
 use rules::Failure;
@@ -20,6 +20,15 @@ pub enum Grant {
     Marked { places: usize, marking: Marking },
     Help,
     Quit,
+}
+
+impl Grant {
+    /// Whether the operator quits.
+    pub fn ends(&self) -> bool
+        ensures { λ r. ⌜ r ≡ ends-of (now (self .entry)) ⌝ }
+    {
+        matches!(self, Grant::Quit)
+    }
 }
 
 /// Why a command was not granted: the library refused it, or no call was made.

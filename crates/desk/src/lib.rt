@@ -6,6 +6,7 @@ mod read;
 
 pub use answer::Denial;
 pub use answer::DenialDisplay;
+pub use answer::DenialFromProblem;
 pub use answer::Grant;
 pub use answer::GrantDisplay;
 pub use command::Command;

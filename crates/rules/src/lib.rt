@@ -8,6 +8,7 @@ pub mod limits;
 mod refusal;
 
 pub use failure::Failure;
+pub use failure::FailureDebug;
 pub use failure::FailureFromAlloc;
 pub use failure::FailureFromRefusal;
 pub use failure::FailureFromRefused;

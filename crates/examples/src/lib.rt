@@ -8,3 +8,5 @@ pub fn table_holds()
 
 #[cfg(test)]
 mod tests;
+#[cfg(test)]
+mod weights;

@@ -1,26 +1,19 @@
-//! Numbers below a limit: the lowest that passes a test.
-ghost use mathlib.Core.Bool.{Bool};
-ghost use mathlib.Core.Path.{_≡_};
-ghost use Prim.Native.Nat.{ℕ};
-ghost use Rattle.whole.specs.Counting.{lowest as lowest-of, IsLowest};
+//! Whole numbers: counting, the limit, division, divisors and rounding.
+mod counting;
+mod division;
+mod divisors;
+mod limits;
+mod rounding;
+#[cfg(test)]
+mod tests;
 
-/// A test of numbers. `passes` says which it lets through.
-pub trait Test {
-    ghost passes: { Self → ℕ → Bool };
-
-    fn test(&self, i: usize) -> bool
-        ensures { λ r. ⌜ r ≡ passes (now (self .entry)) i ⌝ };
-}
-
-/// The lowest number below `n` that passes, if there is one.
-pub fn lowest<P: Test>(n: usize, by: &P) -> Option<usize>
-    ensures value { λ r. ⌜ r ≡ lowest-of n (P·Test .passes (now (by .entry))) ⌝ }
-    ensures least { λ r. ⌜ IsLowest n (P·Test .passes (now (by .entry))) r ⌝ }
-{
-    for i in 0..n {
-        if by.test(i) {
-            return Some(i);
-        }
-    }
-    None
-}
+pub use counting::Test;
+pub use counting::lowest;
+pub use division::divide;
+pub use divisors::divisor;
+pub use divisors::row_divisor;
+pub use limits::LIMIT;
+pub use limits::add_multiple;
+pub use limits::limited;
+pub use rounding::least_congruent;
+pub use rounding::round_up;

@@ -3,7 +3,7 @@ use mathlib.Core.Bool.{true}
 use native.Mathlib.Omega.{arith}
 use Rattle.whole.specs.Counting.{AllFail}
 use Rattle.whole.proofs.Searches.{lowest-none, lowest-some}
-use Rattle.whole.proofs.lowest.Needs as need
+use Rattle.whole.proofs.counting.lowest.Needs as need
 
 pub returns-then-test : need.returns-then-test
 returns-then-test g c =

@@ -1,0 +1,4 @@
+pub mod Multiples
+pub mod Plains
+pub mod Remainders
+pub mod Weights

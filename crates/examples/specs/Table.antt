@@ -1,15 +1,19 @@
--- Small nets, and what the rules make of them.
+-- Small nets and numbers, and what the rules make of them.
 use mathlib.Core.Path.{_≡_}
-use mathlib.Core.Bool.{Bool, true, false}
+use mathlib.Core.Bool.{true, false}
 use mathlib.Core.List.{List, [], _∷_}
 use Prim.Native.Nat.{ℕ}
-use Rattle.std.specs.declared.option.Option.the-variants.{Some}
+use lib.IntN.{pos, negsuc}
 use Rattle.std.specs.declared.result.Result.the-variants.{Ok, Err}
 use Rattle.rules.specs.Outcome.{Outcome, _>>=_, answered, left}
 use Rattle.rules.specs.Refusals.{told, tells}
 use Rattle.rules.specs.declared.refusal.Refusal.the-variants.{PlaceCount, StartLength, StartTokens, CueRange, PlaceRange, TakenRange, GivenRange, EmptyArc, NoSuchCue, ArcsFull, ArcOrder, CueShort, PlaceFull, NoArcs}
 use Rattle.net.specs.Net.{Meaning}
-use Rattle.net.specs.Firing.{Marking, fire, of-list, rehearse}
+use Rattle.net.specs.Firing.{fire, of-list, rehearse}
+use Rattle.scale.specs.Makes.{reduced}
+use Rattle.whole.specs.Divisors.{divisor, row-divisor}
+use Rattle.whole.specs.Limits.{within}
+use Rattle.whole.specs.Rounding.{risen, rounded-up}
 use Rattle.arcs.specs.Arcs.{Drafted, add-arc, arc, arc-net, begin-arcs, seal-arcs}
 
 abbrev pub drafted : ℕ → List ℕ → Drafted
@@ -74,3 +78,19 @@ pub record Table : Type 0 where
   pub unsealed : answered (seal-arcs (drafted 1 (0 ∷ []))) ≡ Err NoArcs
   pub unsealed-told : told NoArcs ≡ tells 39 0 0 0
   pub sealed : answered (seal-arcs draft-A) ≡ Ok tt
+  -- whole numbers: rounding toward zero is up only below zero
+  pub up-over : rounded-up (pos 3) 2 ≡ pos 2
+  pub up-even : rounded-up (pos 4) 2 ≡ pos 2
+  pub up-below : rounded-up (negsuc 2) 2 ≡ negsuc 0
+  pub up-below-even : rounded-up (negsuc 3) 2 ≡ negsuc 1
+  pub risen-above : risen (pos 2) (pos 1) 2 ≡ pos 3
+  pub risen-below : risen (negsuc 3) (negsuc 0) 2 ≡ negsuc 2
+  pub risen-stays : risen (negsuc 3) (pos 0) 2 ≡ negsuc 3
+  pub divides-both : _≡_ {A = ℕ} (divisor 6 4) 2
+  pub divides-none : _≡_ {A = ℕ} (divisor 0 7) 7
+  pub row : _≡_ {A = ℕ} (row-divisor (pos 6 ∷ negsuc 3 ∷ pos 0 ∷ [])) 2
+  pub at-limit : within (pos 1099511627776) ≡ true
+  pub past-limit : within (pos 1099511627777) ≡ false
+  pub at-limit-below : within (negsuc 1099511627775) ≡ true
+  pub past-limit-below : within (negsuc 1099511627776) ≡ false
+  pub remainder-below : _≡_ {A = ℕ} (reduced 5 (negsuc 0)) 4

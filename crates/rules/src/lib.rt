@@ -1,5 +1,4 @@
 //! The limits, and the refusals with their numbers and words.
-ghost use mathlib.Core.Bool.{Bool};
 ghost use mathlib.Core.Path.{_≡_};
 ghost use Rattle.rules.specs.Outcome.{need as needed};
 

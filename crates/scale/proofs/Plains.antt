@@ -1,15 +1,13 @@
 -- Whole numbers, pairs and residues keep the laws of a plain scale.
 use mathlib.Core.Path.{_≡_, refl, sym, ap, _∙_}
-use mathlib.Core.Bool.{true}
-use Prim.Native.Nat.{ℕ, _+_, _-_, _%_, _<_, _≤_, max}
+use Prim.Native.Nat.{ℕ, _+_, _-_, _%_, _≤_, max}
 use native.Mathlib.Nat.{mod-lt, mod-add-mod, add-mod-mod, add-assoc, add-comm, zero-add, mod-eq-of-lt, mod-self, le-max-left, le-max-right, max-le}
 use native.Mathlib.Omega.{arith}
 use lib.IntN.{ℤ, pos, negℤ, natAbs, _+ℤ_}
 use Rattle.std.proofs.shelf.Signed.{ints}
 use Rattle.std.proofs.shelf.Tests.{lt-ltb, ltb-true}
-use Rattle.scale.specs.Scales.{Group, Plain}
+use Rattle.scale.specs.Scales.{Plain}
 use Rattle.scale.specs.Makes.{pair, pairs, residues, whole}
-use Rattle.scale.specs.declared.makes.Pair.{Pair}
 
 sum-reach : (a b : ℤ) → natAbs (a +ℤ b) ≤ natAbs a + natAbs b
 sum-reach a b = omega (arith, ints)

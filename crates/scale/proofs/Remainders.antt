@@ -1,9 +1,9 @@
 -- Residues weigh the remainder of the whole weight.
 use mathlib.Core.Path.{_≡_, refl, sym, ap, subst, _∙_}
-use Prim.Native.Nat.{ℕ, zero, suc, _+_, _-_, _*_, _/_, _%_, _<_, _≤_}
+use Prim.Native.Nat.{ℕ, zero, suc, _+_, _-_, _*_, _/_, _%_, _<_}
 use native.Mathlib.Nat.{mod-lt, mod-add-div', zero-mod}
 use native.Mathlib.Omega.{arith}
-use lib.IntN.{ℤ, pos, negsuc, negℤ, natAbs, _+ℤ_, _-ℤ_, _*ℤ_}
+use lib.IntN.{ℤ, pos, negsuc, negℤ, natAbs, _+ℤ_, _*ℤ_}
 use Rattle.std.proofs.shelf.Signed.{ints}
 use Rattle.whole.proofs.Ints.{add-mul, neg-mul}
 use Rattle.whole.proofs.Raising.{reduced as whole-parts}

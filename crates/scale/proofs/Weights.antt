@@ -1,13 +1,12 @@
 -- What the laws of a plain scale give of multiples and weighted sums.
-use mathlib.Core.Path.{_≡_, refl, sym, ap, subst, _∙_}
+use mathlib.Core.Path.{_≡_, refl, sym, ap, _∙_}
 use mathlib.Core.Bool.{true}
-use mathlib.Core.List.{List}
 use Prim.Native.Nat.{ℕ, zero, suc, _+_, _-_, _*_, _^_, _<_, _≤_}
 use native.Mathlib.Nat.{zero-add, suc-add, mul-le-mul-left}
 use native.Mathlib.Omega.{arith}
 use Rattle.rules.specs.Limits.{most-tokens}
 use Rattle.scale.specs.Scales.{Group, Plain}
-use Rattle.scale.specs.Sums.{Light, difference, most-reach, times, weighed, weight-at}
+use Rattle.scale.specs.Sums.{difference, most-reach, times, weighed}
 
 module _ {W : Type 0} (G : Group W) (L : Plain G) where
   pub times-on : (n : ℕ) (w : W) → G .on w ≡ true → G .on (times G n w) ≡ true

@@ -1,7 +1,7 @@
 //! What a scale is.
 ghost use mathlib.Core.Bool.{Bool, true};
 ghost use mathlib.Core.Path.{_≡_};
-ghost use Prim.Native.Nat.{ℕ, _+_, _^_, _<_};
+ghost use Prim.Native.Nat.{_+_, _^_, _<_};
 ghost use Rattle.std.specs.Orderings.{Decides};
 ghost use Rattle.scale.specs.Scales.{Group, Plain, Tested};
 ghost use Rattle.scale.specs.Sums.{times};

@@ -1,5 +1,4 @@
 //! A line as it comes in, byte by byte.
-ghost use mathlib.Core.Path.{_≡_};
 ghost use Prim.Native.Nat.{_≤_};
 ghost use Rattle.std.specs.Of.Vec.{vec-cap, vec-len};
 ghost use Rattle.text.specs.Limits.{most-bytes};

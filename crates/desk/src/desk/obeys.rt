@@ -1,7 +1,6 @@
 //! How the desk obeys.
 ghost use mathlib.Core.Path.{_≡_};
 ghost use denote.Ref.{now};
-ghost use Rattle.std.specs.Of.Vec.{vec-items};
 ghost use Rattle.std.specs.declared.option.Option.the-variants.{None};
 ghost use Rattle.text.specs.Words.{words};
 ghost use Rattle.desk.specs.Desk.{Answered, Comes, Obeyed, perform-line, standing};

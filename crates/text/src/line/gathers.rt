@@ -1,6 +1,5 @@
 //! Gathering a line and handing it out.
 ghost use mathlib.Core.Path.{_≡_};
-ghost use mathlib.Core.List.{[]};
 ghost use denote.Ref.{now};
 ghost use Rattle.std.specs.Vec.{made};
 ghost use Rattle.text.specs.Lines.{empty-line, grown, handed, received, viewed};

@@ -1,4 +1,4 @@
-use mathlib.Core.Path.{_≡_, sym, subst}
+use mathlib.Core.Path.{sym, subst}
 use lib.Chars.{codes}
 use Rattle.text.specs.Words.{remaining}
 use Rattle.desk.specs.Orders.{ReadAs, read-question}

@@ -1,4 +1,4 @@
-use mathlib.Core.Path.{_≡_, ap, subst, _∙_}
+use mathlib.Core.Path.{ap, subst, _∙_}
 use Rattle.text.specs.Words.{head, tail, words}
 use Rattle.desk.specs.Orders.{ReadAs, read-ask}
 use Rattle.desk.specs.declared.read.Verb.the-variants.{ToAsk}

@@ -1,4 +1,3 @@
-use Prim.Native.Nat.{ℕ}
 use Rattle.whole.specs.Counting.{AllFail}
 use Rattle.whole.proofs.counting.lowest.Given as given
 

@@ -1,4 +1,4 @@
-use mathlib.Core.Path.{_≡_, sym, _∙_}
+use mathlib.Core.Path.{sym, _∙_}
 use Prim.Native.Nat.{_*_, _%_}
 use Rattle.scale.proofs.Multiples.{residue-times}
 use Rattle.scale.proofs.makes.ResidueScale.multiple.Needs as need

@@ -1,8 +1,5 @@
-use mathlib.Core.Path.{_≡_, ap, _∙_}
+use mathlib.Core.Path.{_∙_}
 use Rattle.std.proofs.shelf.Results.{err-from-errBy}
-use Rattle.std.specs.Of.Vec.{vec-items}
-use Rattle.text.specs.Reading.{Read, all-numbers}
-use Rattle.text.specs.Words.{remaining}
 use Rattle.text.proofs.Gathering.{after, gather-more, gather-stop, gather-end, none-left}
 use Rattle.text.proofs.words.Words.numbers.Needs as need
 

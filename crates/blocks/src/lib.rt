@@ -1,4 +1,5 @@
 //! Certificate files: blocks, their tests, and the records in them.
+#![tactic(auto)]
 mod counted;
 mod layout;
 mod reader;

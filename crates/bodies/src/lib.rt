@@ -1,4 +1,5 @@
 //! Bodies of records and rows: a bound, and entries that name places or lines.
+#![tactic(auto)]
 
 mod reads;
 

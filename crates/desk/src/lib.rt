@@ -1,4 +1,5 @@
 //! The operator's desk: commands read from lines, and their answers.
+#![tactic(auto)]
 mod answer;
 mod command;
 mod desk;

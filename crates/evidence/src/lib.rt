@@ -1,4 +1,5 @@
 //! Kinds of evidence behind one interface with a law, and sets of kinds.
+#![tactic(auto)]
 mod base;
 mod kinds;
 mod sets;

@@ -1,4 +1,5 @@
 //! The language of the desk: commands, and how a line is read as one.
+#![tactic(auto)]
 mod command;
 mod read;
 

@@ -13,7 +13,7 @@ pub enum Failure {
 }
 
 impl From<Refusal> for Failure {
-    ghost from_gives = { λ e r. r ≡ AllocFailed' e };
+    ghost from_gives = { λ e r. r ≡ Refused' e };
 
     fn from(e: Refusal) -> Failure {
         Failure::Refused(e)

@@ -1,4 +1,6 @@
 //! The limits, and the refusals with their numbers and words.
+#![tactic(auto)]
+
 ghost use Rattle.std.specs.Prelude.{◌≡◌};
 ghost use Rattle.rules.specs.Outcome.{need as needed};
 

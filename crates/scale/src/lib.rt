@@ -1,4 +1,5 @@
 //! Scales, and weighted sums written once for every scale.
+#![tactic(auto)]
 mod makes;
 mod scales;
 mod sums;

@@ -1,4 +1,5 @@
 //! Words, numbers and names read from a line of bytes.
+#![tactic(auto)]
 mod limits;
 mod line;
 mod names;

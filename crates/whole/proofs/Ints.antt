@@ -1,7 +1,7 @@
 -- Laws of products of whole numbers.
 use Rattle.std.proofs.Common.{◌≡◌, ℕ, suc, ◌+◌, ◌*◌, ◌^◌, ◌<◌, ◌≤◌, ℤ, pos, negsuc, ◌+ℤ◌, ◌*ℤ◌, neg_ℤ, ◌≤ℤ◌, ap, lt_of_mul-lt-mul_right, mul-le-mul_left, arith, w64, SFits}
 use borrow.Author.Differences.{up, down, sum_is_lem, neg_is, product_is}
-use Rattle.std.proofs.lemmas.Nat.{mul-le as mul-le-of-le}
+use Rattle.std.proofs.lemmas.Nat.{mul-le as mul_le_of_le}
 use Rattle.std.proofs.lemmas.Int.{ints}
 
 pub mul_add : (a b c : ℤ) → a *ℤ (b +ℤ c) ≡ a *ℤ b +ℤ a *ℤ c
@@ -22,8 +22,8 @@ mul_assoc a b c =
     omega (arith, ints, ap (λ n. n * up c) l.0, ap (λ n. n * down c) l.0, ap (λ n. n * up c) l.1, ap (λ n. n * down c) l.1, ap (λ n. up a * n) r.0, ap (λ n. down a * n) r.0, ap (λ n. up a * n) r.1, ap (λ n. down a * n) r.1)
 
 -- ---- order
-pub mul-le : (a b : ℤ) (n : ℕ) → a ≤ℤ b → (a *ℤ pos n) ≤ℤ (b *ℤ pos n)
-mul-le a b n h =
+pub mul_le : (a b : ℤ) (n : ℕ) → a ≤ℤ b → (a *ℤ pos n) ≤ℤ (b *ℤ pos n)
+mul_le a b n h =
     let parts : up a + down b ≤ up b + down a = omega (arith, ints) in
     omega (arith, ints, mul-le-mul_left n parts)
 
@@ -41,8 +41,8 @@ le_of_mul_le a b n s small h =
 -- ---- widths
 pub times_bounds : (t : ℕ) (x : ℤ) → t < 2 ^ 16 → SFits w64 x → (neg_ℤ (pos (2 ^ 79)) ≤ℤ (pos t *ℤ x)) × ((pos t *ℤ x) ≤ℤ pos (2 ^ 79))
 times_bounds t (pos n) h f =
-    let most = mul-le-of-le t n (2 ^ 16) (2 ^ 63) (omega arith) (omega (arith, ints)) in
+    let most = mul_le_of_le t n (2 ^ 16) (2 ^ 63) (omega arith) (omega (arith, ints)) in
     (omega (arith, ints), omega (arith, ints))
 times_bounds t (negsuc n) h f =
-    let most = mul-le-of-le t (suc n) (2 ^ 16) (2 ^ 63) (omega arith) (omega (arith, ints)) in
+    let most = mul_le_of_le t (suc n) (2 ^ 16) (2 ^ 63) (omega arith) (omega (arith, ints)) in
     (omega (arith, ints), omega (arith, ints))

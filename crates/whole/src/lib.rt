@@ -1,4 +1,6 @@
 //! Whole numbers: counting, the limit, division, divisors and rounding.
+#![tactic(auto)]
+
 mod counting;
 mod division;
 mod divisors;

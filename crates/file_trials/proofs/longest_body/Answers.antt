@@ -6,10 +6,10 @@ use Rattle.blocks.proofs.Reading.{is_cut, is_first, is_none}
 use Rattle.file_trials.specs.Following.{longest}
 use Rattle.file_trials.proofs.longest_body.Goals as goal
 
-pub returns-in-default : goal.returns-in-default
+pub returns-in_default : goal.returns-in_default
 unfolding longest
-returns-in-default c =
-    let came = sym (ap (λ o. viewed (Ok o)) c.in-default.is) ∙ c.in-Ok.ensures.value in
+returns-in_default c =
+    let came = sym (ap (λ o. viewed (Ok o)) c.in_default.is) ∙ c.in-Ok.ensures.value in
     let end = ap (longest c.loop-found.longest) (is_none (to_come c.loop-found.reader) came) in
     ap Ok (sym end) ∙ c.loop-found.invariant
 

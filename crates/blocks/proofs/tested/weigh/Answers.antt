@@ -8,7 +8,7 @@ loop-i-preserved c =
     let step = weighted_on c.args.bytes.now c.loop-i.i c.loop-i-test.true in
     let same = ap (λ b. (c.loop-i.i + 1) * b) c.from.ensures in
     let place : c.loop-i.i + 1 ≤ sum_at = omega arith in
-    let byte : c.from.result ≤ 255 = omega (arith, c.type-inv.bytes c.loop-i.i) in
+    let byte : c.from.result ≤ 255 = omega (arith, c.type_inv.bytes c.loop-i.i) in
     let most = mul-le-mul place byte in
     (omega arith, omega arith)
 

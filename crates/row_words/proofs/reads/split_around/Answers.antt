@@ -5,6 +5,6 @@ pub returns : goal.returns
 returns c =
     let w = c.args.word.now in
     record {
-      before = c.split-at.ensures.front;
-      after = c.split-at-2.ensures.back ∙ ap (drop 1) c.split-at.ensures.back ∙ drop-drop 1 c.args.at w;
+      before = c.split_at.ensures.front;
+      after = c.split_at-2.ensures.back ∙ ap (drop 1) c.split_at.ensures.back ∙ drop-drop 1 c.args.at w;
     }

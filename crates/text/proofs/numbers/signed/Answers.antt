@@ -5,15 +5,15 @@ use Rattle.text.specs.Numbers.{number, fitted, negative}
 use Rattle.text.proofs.Spelling.{after_minus}
 use Rattle.text.proofs.numbers.signed.Goals as goal
 
-pub returns-in-err-number : goal.returns-in-err-number
-returns-in-err-number c =
+pub returns-in_err-number : goal.returns-in_err-number
+returns-in_err-number c =
     let word = c.args.word.now in
-    let read = c.in-err-number.ensures ∙ ap number (take_rest word 1) in
+    let read = c.in_err-number.ensures ∙ ap number (take_rest word 1) in
     c.from-residual.ensures ∙ ap negative read ∙ sym (after_minus word (omega arith))
 
-pub returns-in-ok-number : goal.returns-in-ok-number
-returns-in-ok-number c =
+pub returns-in_ok-number : goal.returns-in_ok-number
+returns-in_ok-number c =
     let word = c.args.word.now in
-    let read = c.in-ok-number.ensures ∙ ap number (take_rest word 1) in
-    let fits : c.fitted.result ≡ fitted (neg_ℤ (pos c.in-ok-number.field-0)) = search (arith, ints, to_z-of_z, c.fitted.ensures, c.from.ensures) in
+    let read = c.in_ok-number.ensures ∙ ap number (take_rest word 1) in
+    let fits : c.fitted.result ≡ fitted (neg_ℤ (pos c.in_ok-number.field-0)) = search (arith, ints, to_z-of_z, c.fitted.ensures, c.from.ensures) in
     fits ∙ ap negative read ∙ sym (after_minus word (omega arith))

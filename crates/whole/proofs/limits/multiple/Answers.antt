@@ -11,8 +11,8 @@ product c =
     ap₂ ◌*ℤ◌ (to_z-of_z w128 c.from.result t ∙ c.from.ensures)
     (to_z-of_z w128 c.from-2.result x ∙ c.from-2.ensures ∙ to_z-of_z w64 c.args.x c.ranges.x)
 
-pub overflow-mul-result : goal.overflow-mul-result
-overflow-mul-result c =
+pub overflow_mul-result : goal.overflow_mul-result
+overflow_mul-result c =
     let bounds = times_bounds c.args.times c.args.x (omega arith) c.ranges.x in
     subst (SFits w128) (sym (product c)) (omega (arith, ints))
 

@@ -11,7 +11,7 @@ returns c =
     let f = c.args.file.now in
     let all : blocks f - 0 ≡ blocks f = omega arith in
     record {
-      answer = c.in-ok-test-blocks.ensures;
-      covered = covered f (used_within f (sym (ap is_ok c.in-ok-test-blocks.ensures)));
+      answer = c.in_ok-test_blocks.ensures;
+      covered = covered f (used_within f (sym (ap is_ok c.in_ok-test_blocks.ensures)));
       stands = all_read 0 [] (from 0 f) refl ∙ ap (λ (n : ℕ). records_from n 0 f) all;
     }

@@ -6,8 +6,8 @@ use Rattle.scale.proofs.makes.WholeScale.multiple.Goals as goal
 plain : (t x u : ℤ) → SFits w64 t → SFits w64 x → t ≡ u → to_z w64 (of_z w64 t) *ℤ to_z w64 (of_z w64 x) ≡ u *ℤ x
 plain t x u f g e = λ i. (to_z-of_z w64 t f ∙ e) i *ℤ to_z-of_z w64 x g i
 
-pub overflow-mul-result : goal.overflow-mul-result
-overflow-mul-result c =
+pub overflow_mul-result : goal.overflow_mul-result
+overflow_mul-result c =
     let f : SFits w64 c.from.result = search rules in
     subst (SFits w64) (sym (plain c.from.result c.args.a (pos c.args.n) f c.ranges.a c.from.ensures)) (whole_fits c.args.n c.args.a (omega arith) c.requires.reach)
 

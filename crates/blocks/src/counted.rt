@@ -1,6 +1,6 @@
 //! How many records a file has.
 ghost use Rattle.std.specs.Prelude.{◌≡◌};
-ghost use Rattle.blocks.specs.Counting.{count_records_of as counted};
+ghost use Rattle.blocks.specs.Counting.{count_records as counted};
 
 use crate::reader::Reader;
 use rules::Refusal;

@@ -1,5 +1,6 @@
 //! Certificate files: blocks, their tests, and the records in them.
 #![tactic(auto)]
+
 mod counted;
 mod layout;
 mod reader;

@@ -2,7 +2,7 @@
 ghost use Rattle.std.specs.Prelude.{◌≡◌, ◌*◌, ◌^◌, ◌<◌, ◌≤◌, [], ◌∷◌, length, drop, Some, None};
 ghost use Rattle.rules.specs.Outcome.{viewed};
 ghost use Rattle.bodies.specs.Views.{Opens, bounded, listed};
-ghost use Rattle.bodies.specs.Bodies.{absent as absent_of, bound_in, bound_size, fit_bounded, fit_entries, fit_one, fits_bounded as fits_bounded_of, missing as missing_of, spread as spread_of, unfit as unfit_of, fits as fits_of, multiplier as multiplier_of, signed as signed_of, size as type_size, weight as weight_of};
+ghost use Rattle.bodies.specs.Bodies.{absent as absent_of, bound_in, bound_size, fit_bounded, fit_entries, fit_one, fits_bounded as fits_bounded_of, missing as missing_of, spread as spread_of, unfit as unfit_of, fits as fits_of, multiplier as multiplier_of, signed as signed_of, size as entry_size, weight as weight_of};
 
 use super::{Entries, Entry, Named, Shape};
 use blocks::word;
@@ -28,7 +28,7 @@ impl Named {
 impl Shape {
     /// The bytes of an entry.
     fn size(&self) -> usize
-        ensures value { result ≡ type_size self.now }
+        ensures value { result ≡ entry_size self.now }
     {
         match self {
             Shape::Names => 1,

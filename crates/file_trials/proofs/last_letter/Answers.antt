@@ -8,7 +8,7 @@ use Rattle.file_trials.proofs.last_letter.Goals as goal
 pub returns-in_err-record : goal.returns-in_err-record
 unfolding follow
 returns-in_err-record c =
-    let p = err_from_is_err_and c.from-residual-in_err-record.result c.from-residual-in_err-record.ensures.1 in
+    let p = err_from_is_err_and c.from_residual-in_err-record.result c.from_residual-in_err-record.ensures.1 in
     let cut = is_cut (to_come c.loop-record.reader) _ c.in_err-record.ensures.value in
     let stop = ap (follow c.loop-record.last) cut.3 in
     rw (p.1, p.2, cut.2) (sym stop ∙ c.loop-record.invariant)

@@ -20,7 +20,7 @@ loop-count-init c =
 pub returns-in_err-next : goal.returns-in_err-next
 unfolding count_from
 returns-in_err-next c =
-    let p = err_from_is_err_and c.from-residual-in_err-next.result c.from-residual-in_err-next.ensures.1 in
+    let p = err_from_is_err_and c.from_residual-in_err-next.result c.from_residual-in_err-next.ensures.1 in
     let cut = is_cut (to_come c.loop-count.reader) _ c.in_err-next.ensures.value in
     let stop = ap (count_from c.loop-count.count) cut.3 in
     rw (p.1, p.2, cut.2) (sym stop ∙ c.loop-count.invariant.0)

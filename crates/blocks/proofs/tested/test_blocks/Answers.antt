@@ -6,7 +6,7 @@ use Rattle.blocks.proofs.tested.test_blocks.Goals as goal
 
 pub returns-in_err-test_block : goal.returns-in_err-test_block
 returns-in_err-test_block c =
-    let p = err_from_is_err_and c.from-residual-in_err-test_block.result c.from-residual-in_err-test_block.ensures.1 in
+    let p = err_from_is_err_and c.from_residual-in_err-test_block.result c.from_residual-in_err-test_block.ensures.1 in
     let refused = c.in_err-test_block.ensures ∙ ap (sound c.loop-number.number) c.block_at.ensures.value in
     let stop = one_refused c.args.file.now c.loop-number.number c.loop-number-test.true _ refused in
     rw (p.1, p.2) (sym stop ∙ c.loop-number.invariant.1)

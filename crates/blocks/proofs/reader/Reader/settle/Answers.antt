@@ -13,7 +13,7 @@ loop-used-preserved c =
     let read = sym (ap length c.loop-used.invariant.0) ∙ none in
     let used = c.used_in.ensures.value ∙ ap used_in c.block_at.ensures.value in
     let on = goes_on f r.at r.end r.next read c.if-self.true in (
-      c.part-used_in-loop-used.ensures,
+      c.part-used-in-loop-used.ensures,
       ap (λ (n : ℕ). stands f (used_from r.next) (used_from r.next + n) (r.next + 1)) used ∙ sym on ∙ c.loop-used.invariant.1,
     )
 

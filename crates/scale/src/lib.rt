@@ -1,5 +1,6 @@
 //! Scales, and weighted sums written once for every scale.
 #![tactic(auto)]
+
 mod makes;
 mod scales;
 mod sums;

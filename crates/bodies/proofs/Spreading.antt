@@ -1,5 +1,5 @@
 -- The numbers of entries, spread over the places.
-use Rattle.std.proofs.Common.{◌≡◌, ℕ, ◌+◌, ◌-◌, ◌*◌, ◌^◌, ◌<◌, ◌≤◌, Bool, true, ltb, leb, ◌⊎◌, List, [], ◌∷◌, length, get_or, set, replicate, ℤ, pos, nat_abs, None, Ok, sym, refl, ◌∙◌, subst, inl, inr, arith, get_or-set_other, get_or-set_same, lt-length-set}
+use Rattle.std.proofs.Common.{◌≡◌, ℕ, ◌+◌, ◌*◌, ◌^◌, ◌<◌, ◌≤◌, Bool, true, ltb, leb, ◌⊎◌, List, [], ◌∷◌, length, get_or, set, replicate, ℤ, pos, nat_abs, None, Ok, sym, refl, ◌∙◌, subst, inl, inr, arith, get_or-set_other, get_or-set_same, lt-length-set}
 use Rattle.std.proofs.lemmas.Bool.{and_from, and_parts, cases_eq, cond_both, le-leb, ltb-false, ltb-true}
 use Rattle.std.specs.List.{list_all}
 use Rattle.rules.specs.Limits.{most_places}

@@ -1,5 +1,5 @@
 -- What stands in a body: a bound, and entries that name a place or a line with a number.
-use Rattle.std.specs.Prelude.{ℕ, zero, suc, ◌+◌, ◌-◌, ◌*◌, ◌%◌, Bool, cond, not, ◌&&◌, List, [], ◌∷◌, length, drop, replicate, ℤ, pos, negsuc, Some, None, Ok, Option, Result, ◌==◌, nat_le, nat_lt, slice_index, slice_set, unsigned_abs}
+use Rattle.std.specs.Prelude.{ℕ, suc, ◌+◌, ◌-◌, ◌*◌, ◌%◌, Bool, cond, not, ◌&&◌, List, [], ◌∷◌, length, drop, replicate, ℤ, pos, negsuc, Some, None, Ok, Option, Result, ◌==◌, nat_le, nat_lt, slice_index, slice_set, unsigned_abs}
 use Rattle.rules.specs.Limits.{most_places}
 use Rattle.rules.specs.Outcome.{◌>>=◌, need, none_such}
 use Rattle.rules.specs.declared.fault.Fault.{Fault}

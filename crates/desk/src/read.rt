@@ -1,7 +1,7 @@
 //! Commands read from the words of a line.
 ghost use Rattle.std.specs.Prelude.{◌≡◌};
 ghost use Rattle.text.specs.Words.{remaining, words as words_of};
-ghost use Rattle.desk.specs.Orders.{ReadAs, alone, comment, idle, order, read, read_arc as read_arc_of, read_arcs as read_arcs_of, read_ask as read_ask_of, read_net as read_net_of, read_pair as read_pair_of, read_question as read_question_of, read_given as read_given_of, read_rehearse as read_rehearse_of, read_seal as read_seal_of, read_start as read_start_of, read_taken, topic, verb};
+ghost use Rattle.desk.specs.Orders.{ReadAs, alone, comment, idle, order, read, read_arc, read_arcs, read_ask, read_net, read_pair, read_question, read_given, read_rehearse, read_seal, read_start, read_taken, topic, verb};
 
 use super::command::{Command, Question};
 use std::alloc::Global;
@@ -27,7 +27,7 @@ pub fn is_idle(line: &[u8]) -> bool
 }
 
 fn read_arcs(heap: Global, words: &mut Words) -> Result<Command, Problem>
-    ensures { ReadAs (read_arcs_of (remaining words.old)) result }
+    ensures { ReadAs (read_arcs (remaining words.old)) result }
 {
     let places = words.number()? as usize;
     let starts = words.numbers(heap)?;
@@ -35,7 +35,7 @@ fn read_arcs(heap: Global, words: &mut Words) -> Result<Command, Problem>
 }
 
 fn read_arc(words: &mut Words) -> Result<Command, Problem>
-    ensures { ReadAs (read_arc_of (remaining words.old)) result }
+    ensures { ReadAs (read_arc (remaining words.old)) result }
 {
     let cue = words.number()? as usize;
     let place = words.number()? as usize;
@@ -51,14 +51,14 @@ fn read_arc(words: &mut Words) -> Result<Command, Problem>
 }
 
 fn read_rehearse(heap: Global, words: &mut Words) -> Result<Command, Problem>
-    ensures { ReadAs (read_rehearse_of (remaining words.old)) result }
+    ensures { ReadAs (read_rehearse (remaining words.old)) result }
 {
     let cues = words.numbers(heap)?;
     Ok(Command::Rehearse { cues })
 }
 
 fn read_net(heap: Global, words: &mut Words) -> Result<Command, Problem>
-    ensures { ReadAs (read_net_of (remaining words.old)) result }
+    ensures { ReadAs (read_net (remaining words.old)) result }
 {
     let Some(make) = words.next() else {
         return Err(Problem::Missing);
@@ -70,7 +70,7 @@ fn read_net(heap: Global, words: &mut Words) -> Result<Command, Problem>
 }
 
 fn read_seal(words: &mut Words) -> Result<Command, Problem>
-    ensures { ReadAs (read_seal_of (remaining words.old)) result }
+    ensures { ReadAs (read_seal (remaining words.old)) result }
 {
     let Some(object) = words.next() else {
         return Err(Problem::Missing);
@@ -90,7 +90,7 @@ fn read_alone(words: &mut Words, command: Command) -> Result<Command, Problem>
 }
 
 fn read_pair(words: &mut Words) -> Result<(usize, usize), Problem>
-    ensures { result ≡ read_pair_of (remaining words.old) }
+    ensures { result ≡ read_pair (remaining words.old) }
 {
     let place = words.number()? as usize;
     let cue = words.number()? as usize;
@@ -99,7 +99,7 @@ fn read_pair(words: &mut Words) -> Result<(usize, usize), Problem>
 }
 
 fn read_start(words: &mut Words) -> Result<Command, Problem>
-    ensures { ReadAs (read_start_of (remaining words.old)) result }
+    ensures { ReadAs (read_start (remaining words.old)) result }
 {
     let place = words.number()? as usize;
     words.end()?;
@@ -118,7 +118,7 @@ fn read_taken(words: &mut Words) -> Result<Command, Problem>
 }
 
 fn read_given(words: &mut Words) -> Result<Command, Problem>
-    ensures { ReadAs (read_given_of (remaining words.old)) result }
+    ensures { ReadAs (read_given (remaining words.old)) result }
 {
     let (place, cue) = read_pair(words)?;
     Ok(Command::AskNet {
@@ -151,7 +151,7 @@ fn topic_of(word: &[u8]) -> Topic
 }
 
 fn read_question(words: &mut Words) -> Result<Command, Problem>
-    ensures { ReadAs (read_question_of (remaining words.old)) result }
+    ensures { ReadAs (read_question (remaining words.old)) result }
 {
     let Some(word) = words.next() else {
         return Err(Problem::Missing);
@@ -177,7 +177,7 @@ fn read_question(words: &mut Words) -> Result<Command, Problem>
 }
 
 fn read_ask(words: &mut Words) -> Result<Command, Problem>
-    ensures { ReadAs (read_ask_of (remaining words.old)) result }
+    ensures { ReadAs (read_ask (remaining words.old)) result }
 {
     let Some(object) = words.next() else {
         return Err(Problem::Missing);

@@ -2,7 +2,7 @@
 ghost use Rattle.std.specs.Prelude.{◌≡◌};
 ghost use Rattle.std.specs.Option.{option_map};
 ghost use Rattle.text.specs.Words.{remaining, words as words_of};
-ghost use Rattle.orders.specs.Orders.{ReadAs, alone, comment, idle, make, object, order, read, read_arc as read_arc_of, read_arcs as read_arcs_of, read_ask as read_ask_of, read_conditions as read_conditions_of, read_move as read_move_of, read_net as read_net_of, read_pair as read_pair_of, read_pairs, read_question as read_question_of, read_given as read_given_of, read_records as read_records_of, read_rehearse as read_rehearse_of, read_row as read_row_of, read_seal as read_seal_of, read_start as read_start_of, read_taken, read_thread as read_thread_of, file_named as file_named_of, topic, verb};
+ghost use Rattle.orders.specs.Orders.{ReadAs, alone, comment, idle, make, object, order, read, read_arc, read_arcs, read_ask, read_conditions, read_move, read_net, read_pair, read_pairs, read_question, read_given, read_records, read_rehearse, read_row, read_seal, read_start, read_taken, read_thread, file_named, topic, verb};
 
 use super::command::{Command, Question};
 use row_words::read_row_body;
@@ -29,7 +29,7 @@ pub fn is_idle(line: &[u8]) -> bool
 }
 
 fn read_arcs(heap: Global, words: &mut Words) -> Result<Command, Problem>
-    ensures { ReadAs (read_arcs_of (remaining words.old)) result }
+    ensures { ReadAs (read_arcs (remaining words.old)) result }
 {
     let places = words.number()? as usize;
     let starts = words.numbers(heap)?;
@@ -38,7 +38,7 @@ fn read_arcs(heap: Global, words: &mut Words) -> Result<Command, Problem>
 
 /// Two numbers and no more.
 fn read_pair(words: &mut Words) -> Result<(u32, u32), Problem>
-    ensures { result ≡ read_pair_of (remaining words.old) }
+    ensures { result ≡ read_pair (remaining words.old) }
 {
     let first = words.number()?;
     let second = words.number()?;
@@ -57,7 +57,7 @@ fn read_pairs(words: &mut Words) -> Result<((u32, u32), (u32, u32)), Problem>
 }
 
 fn read_arc(words: &mut Words) -> Result<Command, Problem>
-    ensures { ReadAs (read_arc_of (remaining words.old)) result }
+    ensures { ReadAs (read_arc (remaining words.old)) result }
 {
     let ((cue, place), (taken, given)) = read_pairs(words)?;
     Ok(Command::Arc {
@@ -69,7 +69,7 @@ fn read_arc(words: &mut Words) -> Result<Command, Problem>
 }
 
 fn read_thread(words: &mut Words) -> Result<Command, Problem>
-    ensures { ReadAs (read_thread_of (remaining words.old)) result }
+    ensures { ReadAs (read_thread (remaining words.old)) result }
 {
     let (states, start) = read_pair(words)?;
     Ok(Command::Thread {
@@ -79,7 +79,7 @@ fn read_thread(words: &mut Words) -> Result<Command, Problem>
 }
 
 fn read_move(words: &mut Words) -> Result<Command, Problem>
-    ensures { ReadAs (read_move_of (remaining words.old)) result }
+    ensures { ReadAs (read_move (remaining words.old)) result }
 {
     let ((cue, thread), (from, to)) = read_pairs(words)?;
     Ok(Command::Move {
@@ -91,7 +91,7 @@ fn read_move(words: &mut Words) -> Result<Command, Problem>
 }
 
 fn read_rehearse(heap: Global, words: &mut Words) -> Result<Command, Problem>
-    ensures { ReadAs (read_rehearse_of (remaining words.old)) result }
+    ensures { ReadAs (read_rehearse (remaining words.old)) result }
 {
     let cues = words.numbers(heap)?;
     Ok(Command::Rehearse { cues })
@@ -116,7 +116,7 @@ fn make_of(word: &[u8]) -> Make
 }
 
 fn read_net(heap: Global, words: &mut Words) -> Result<Command, Problem>
-    ensures { ReadAs (read_net_of (remaining words.old)) result }
+    ensures { ReadAs (read_net (remaining words.old)) result }
 {
     let Some(word) = words.next() else {
         return Err(Problem::Missing);
@@ -147,7 +147,7 @@ fn object_of(word: &[u8]) -> Object
 }
 
 fn read_seal(words: &mut Words) -> Result<Command, Problem>
-    ensures { ReadAs (read_seal_of (remaining words.old)) result }
+    ensures { ReadAs (read_seal (remaining words.old)) result }
 {
     let Some(word) = words.next() else {
         return Err(Problem::Missing);
@@ -160,7 +160,7 @@ fn read_seal(words: &mut Words) -> Result<Command, Problem>
 }
 
 fn read_conditions(words: &mut Words) -> Result<Command, Problem>
-    ensures { ReadAs (read_conditions_of (remaining words.old)) result }
+    ensures { ReadAs (read_conditions (remaining words.old)) result }
 {
     let places = words.number()? as usize;
     words.end()?;
@@ -168,7 +168,7 @@ fn read_conditions(words: &mut Words) -> Result<Command, Problem>
 }
 
 fn read_row(heap: Global, words: &mut Words) -> Result<Command, Problem>
-    ensures { ReadAs (read_row_of (remaining words.old)) result }
+    ensures { ReadAs (read_row (remaining words.old)) result }
 {
     let condition = words.number()? as usize;
     let body = read_row_body(heap, words)?;
@@ -184,7 +184,7 @@ fn read_alone(words: &mut Words, command: Command) -> Result<Command, Problem>
 }
 
 fn read_start(words: &mut Words) -> Result<Command, Problem>
-    ensures { ReadAs (read_start_of (remaining words.old)) result }
+    ensures { ReadAs (read_start (remaining words.old)) result }
 {
     let place = words.number()? as usize;
     words.end()?;
@@ -206,7 +206,7 @@ fn read_taken(words: &mut Words) -> Result<Command, Problem>
 }
 
 fn read_given(words: &mut Words) -> Result<Command, Problem>
-    ensures { ReadAs (read_given_of (remaining words.old)) result }
+    ensures { ReadAs (read_given (remaining words.old)) result }
 {
     let (place, cue) = read_pair(words)?;
     Ok(Command::AskNet {
@@ -242,7 +242,7 @@ fn topic_of(word: &[u8]) -> Topic
 }
 
 fn read_question(words: &mut Words) -> Result<Command, Problem>
-    ensures { ReadAs (read_question_of (remaining words.old)) result }
+    ensures { ReadAs (read_question (remaining words.old)) result }
 {
     let Some(word) = words.next() else {
         return Err(Problem::Missing);
@@ -268,7 +268,7 @@ fn read_question(words: &mut Words) -> Result<Command, Problem>
 }
 
 fn read_ask(words: &mut Words) -> Result<Command, Problem>
-    ensures { ReadAs (read_ask_of (remaining words.old)) result }
+    ensures { ReadAs (read_ask (remaining words.old)) result }
 {
     let Some(object) = words.next() else {
         return Err(Problem::Missing);
@@ -280,7 +280,7 @@ fn read_ask(words: &mut Words) -> Result<Command, Problem>
 }
 
 fn read_records(words: &mut Words) -> Result<Command, Problem>
-    ensures { ReadAs (read_records_of (remaining words.old)) result }
+    ensures { ReadAs (read_records (remaining words.old)) result }
 {
     let Some(_) = words.next() else {
         return Err(Problem::Missing);
@@ -353,7 +353,7 @@ pub fn read_command(heap: Global, line: &[u8]) -> Result<Command, Problem>
 
 /// The name of the file that a line's command reads.
 pub fn file_named(line: &[u8]) -> Option<&[u8]>
-    ensures { option_map (λ x. x.now) result ≡ file_named_of (words_of line.now) }
+    ensures { option_map (λ x. x.now) result ≡ file_named (words_of line.now) }
 {
     let mut words = Words::new(line);
     let Some(word) = words.next() else {

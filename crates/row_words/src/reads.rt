@@ -1,6 +1,6 @@
 //! Entries, bounds and hexadecimal digits.
 ghost use Rattle.std.specs.Prelude.{◌≡◌, ◌+◌, ◌<◌, ◌∷◌, length, take, drop, pos, neg_ℤ, ◌≤ℤ◌, ◌<ℤ◌, Some, None, vec_items, unsigned_abs};
-ghost use Rattle.row_words.specs.RowWords.{Grown, ReadBody, as_bound, as_entry, colon_from, entries_onto, four_bytes, hex_body, hex_byte_of as byte_of, hex_digit_of as digit_of, hex_onto, one_byte, row_body, spelt_body, two_byte, two_bytes, wrapped};
+ghost use Rattle.row_words.specs.RowWords.{Grown, ReadBody, as_bound, as_entry, colon_from, entries_onto, four_bytes, hex_body, hex_byte as byte_of, hex_digit as digit_of, hex_onto, one_byte, row_body, spelt_body, two_byte, two_bytes, wrapped};
 ghost use Rattle.std.specs.Option.{ok_or};
 ghost use Rattle.text.specs.declared.problem.Problem.TheVariants.{NotHex};
 ghost use Rattle.text.specs.Words.{remaining};

@@ -1,5 +1,6 @@
 //! Words, numbers and names read from a line of bytes.
 #![tactic(auto)]
+
 mod limits;
 mod line;
 mod names;

@@ -1,6 +1,6 @@
 //! Numbers in decimal digits.
 ghost use Rattle.std.specs.Prelude.{◌≡◌};
-ghost use Rattle.text.specs.Numbers.{digit as digit_of, number as number_of_lem, fitted as fitted_of, signed as signed_of};
+ghost use Rattle.text.specs.Numbers.{digit as digit_of, number as number_of, fitted as fitted_of, signed as signed_of};
 
 /// What a decimal digit stands for.
 fn digit(byte: u8) -> Option<u8>
@@ -15,7 +15,7 @@ fn digit(byte: u8) -> Option<u8>
 
 /// The number that a word of digits spells, if it is at most `u32::MAX`.
 pub fn number(word: &[u8]) -> Option<u32>
-    ensures { result ≡ number_of_lem word.now }
+    ensures { result ≡ number_of word.now }
 {
     if word.is_empty() {
         return None;

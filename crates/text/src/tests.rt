@@ -66,7 +66,7 @@ fn numbers_from_a_line(rt: HostRuntime) -> Result<(), Fail> {
     assert_eq!(rt; words.number(), Ok(1));
     assert_eq!(rt; words.number(), Err(Problem::NotANumber));
     let rest = words.numbers(rt.alloc())?;
-    assert_eq!(rt; rest.as_slice(), &[2, 3]);
+    assert_eq!(rt; rest.as_slice(), [2, 3].as_slice());
     assert_eq!(rt; words.number(), Err(Problem::Missing));
     assert_eq!(rt; words.end(), Ok(()));
     assert_eq!(rt; Words::new(b"1").end(), Err(Problem::Surplus));

@@ -7,7 +7,7 @@ use Rattle.row_words.proofs.reads.read_entries.Goals as goal
 
 pub returns-in_err-entry : goal.returns-in_err-entry
 returns-in_err-entry c =
-    let p = err_from_is_err_and c.from-residual.result c.from-residual.ensures.1 in
+    let p = err_from_is_err_and c.from_residual.result c.from_residual.ensures.1 in
     let stop = entries_stop (vec_items c.loop-word.body) _ _ _ c.in-Some.ensures.value c.in_err-entry.ensures in
     rw (p.1, p.2) (λ _. sym c.loop-word.invariant ∙ stop)
 

@@ -8,7 +8,7 @@ use Rattle.row_words.proofs.reads.read_hex.Goals as goal
 
 pub returns-in_err-byte : goal.returns-in_err-byte
 returns-in_err-byte c =
-    let p = err_from_is_err_and c.from-residual.result c.from-residual.ensures.1 in
+    let p = err_from_is_err_and c.from_residual.result c.from_residual.ensures.1 in
     let stop = pair_stops (vec_items c.loop-high.body) c.loop-high.left.now _ _ _ _ c.in-Some.ensures c.in_err-byte.ensures in
     rw (p.1, p.2) (λ _. sym c.loop-high.invariant ∙ stop)
 

@@ -1,11 +1,6 @@
-use Rattle.std.proofs.Common.{rules}
-use Rattle.std.proofs.lemmas.Slice.Eq.{slice_eq-Decides, bytes_eq-Decides}
 use Rattle.text.specs.Names.{same}
 use Rattle.text.proofs.names.same.Goals as goal
-use Rattle.std.proofs.lemmas.Bool.Decides.{Decides-eqb}
 
-pub returns : goal.returns
+pub returns-clause-value : goal.returns-clause-value
 unfolding same
-returns c =
-    let d = slice_eq-Decides Decides-eqb _ _ _ c.eq.ensures in
-    record { value = search (rules, bytes_eq-Decides); decides = search rules }
+returns-clause-value c = c.eq.ensures

@@ -14,16 +14,16 @@ pub loop-byte-init : goal.loop-byte-init
 loop-byte-init c = let e = c.if-is_empty.ensures in (omega arith, some_bytes _ (grind (arith, nat_tests)))
 
 pub returns-in_err-digit : goal.returns-in_err-digit
-returns-in_err-digit c = c.from-residual.ensures ∙ sym (stops _ _ _ c.loop-byte-test.true c.loop-byte.invariant.1 c.in_err-digit.ensures)
+returns-in_err-digit c = c.from_residual.ensures ∙ sym (stops _ _ _ c.loop-byte-test.true c.loop-byte.invariant.1 c.in_err-digit.ensures)
 
 pub returns-in_err-checked_mul : goal.returns-in_err-checked_mul
 returns-in_err-checked_mul c =
-    c.from-residual-in_err-checked_mul.ensures
+    c.from_residual-in_err-checked_mul.ensures
     ∙ sym (overflows _ _ _ c.loop-byte-test.true c.loop-byte.invariant.1 _ c.in_ok-digit.ensures (omega (arith, c.in_err-checked_mul.ensures)))
 
 pub returns-in_err-value : goal.returns-in_err-value
 returns-in_err-value c =
-    c.from-residual-in_err-value.ensures
+    c.from_residual-in_err-value.ensures
     ∙ sym (overflows _ _ _ c.loop-byte-test.true c.loop-byte.invariant.1 _ c.in_ok-digit.ensures
     (omega (arith, c.in_err-value.ensures, c.in_ok-checked_mul.ensures.1, c.from.ensures)))
 

@@ -1,11 +1,11 @@
 use Rattle.std.proofs.Common.{◌∙◌}
 use Rattle.std.proofs.lemmas.Result.{err_from_is_err_and}
-use Rattle.text.proofs.Gathering.{after, gather_more, gather_stop, gather_end, none_left}
+use Rattle.text.proofs.Gathering.{gather_more, gather_stop, gather_end, none_left}
 use Rattle.text.proofs.words.Words.numbers.Goals as goal
 
 pub returns-in_err-number : goal.returns-in_err-number
 returns-in_err-number c =
-    let p = err_from_is_err_and c.from-residual.result c.from-residual.ensures.1 in
+    let p = err_from_is_err_and c.from_residual.result c.from_residual.ensures.1 in
     let stop = gather_stop _ _ _ _ c.in-Some.ensures.value c.in_err-number.ensures in
     rw (p.1, p.2) (record { value = λ _. c.loop-word.invariant ∙ stop; after = tt })
 

@@ -1,5 +1,6 @@
 //! Kinds of evidence behind one interface with a law, and sets of kinds.
 #![tactic(auto)]
+
 mod base;
 mod kinds;
 mod sets;

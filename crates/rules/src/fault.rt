@@ -5,7 +5,7 @@ ghost use Rattle.rules.specs.Faults.{fault_told, formal as formal_of};
 use std::fmt;
 
 /// Each case with what the operator is told of it. A later layer adds its cases here, with their words below
-/// and their numbers in `tell` and in the specification's `fault-told`. `Other` is for a kind of evidence that
+/// and their numbers in `tell` and in the specification's `fault_told`. `Other` is for a kind of evidence that
 /// this layer does not know.
 #[derive(Clone, Copy, PartialEq, Debug)]
 pub enum Fault {

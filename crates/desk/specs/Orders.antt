@@ -5,7 +5,7 @@ use Rattle.text.specs.Names.{same}
 use Rattle.text.specs.Reading.{Read, first_number, ended, all_numbers}
 use Rattle.text.specs.Words.{tail}
 use Rattle.text.specs.declared.problem.Problem.{Problem}
-use Rattle.text.specs.declared.problem.Problem.TheVariants.{Missing, NotANumber, Surplus, Unknown, TooLong, NotText, Memory}
+use Rattle.text.specs.declared.problem.Problem.TheVariants.{Missing, NotANumber, NotAnEntry, NotHex, Surplus, Unknown, TooLong, NotText, Memory}
 use Rattle.desk.specs.declared.command.Command.{Command}
 use Rattle.desk.specs.declared.command.Command.TheVariants.{NetArcs, Arc, SealNet, AskNet, Rehearse, Help, Quit}
 use Rattle.desk.specs.declared.command.Question.{Question}
@@ -40,6 +40,8 @@ order Quit = quit
 abbrev pub no_memory : Problem → Bool
 no_memory Missing = false
 no_memory NotANumber = false
+no_memory NotAnEntry = false
+no_memory NotHex = false
 no_memory Surplus = false
 no_memory Unknown = false
 no_memory TooLong = false

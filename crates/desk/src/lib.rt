@@ -1,5 +1,6 @@
 //! The operator's desk: commands read from lines, and their answers.
 #![tactic(auto)]
+
 mod answer;
 mod command;
 mod desk;

@@ -1,5 +1,6 @@
 //! Certificate files gone through record by record, and files at their limits.
 #![tactic(auto)]
+
 ghost use Rattle.std.specs.Prelude.{◌≡◌};
 ghost use Rattle.file_trials.specs.Following.{last_letter, longest_body as longest_body_of};
 

@@ -100,7 +100,7 @@ fn a_mended_byte_is_read_as_changed(rt: HostRuntime) -> Result<(), Fail> {
         };
         assert_eq!(rt; record.letter, by);
         assert_eq!(rt; record.offset, 37);
-        assert!(rt; record.body == &[by]);
+        assert!(rt; record.body == [by].as_slice());
         assert!(rt; reader.next()?.is_none());
     }
     Ok(())
@@ -179,7 +179,7 @@ fn as_many_as_128_blocks(rt: HostRuntime) -> Result<(), Fail> {
             return Err(Fail::new("128 records"));
         };
         assert_eq!(rt; record.offset, 512 * k + 4);
-        assert!(rt; record.body == &[9]);
+        assert!(rt; record.body == [9].as_slice());
     }
     assert!(rt; reader.next()?.is_none());
     file[65024] = 126;

@@ -1,5 +1,6 @@
 //! Small nets: what the rules make of them, and what the code does at the limits.
 #![tactic(auto)]
+
 ghost use Rattle.examples.specs.Evidence.{EvidenceTable};
 ghost use Rattle.examples.specs.Files.{Files};
 ghost use Rattle.examples.specs.Table.{Table};

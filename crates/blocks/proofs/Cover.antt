@@ -1,6 +1,6 @@
 -- The records of a file cover its used bytes.
 use Rattle.std.proofs.Common.{◌≡◌, ℕ, zero, suc, ◌+◌, ◌-◌, ◌<◌, ◌≤◌, List, [], ◌∷◌, length, get_or, take, drop, Some, None, Option, sym, refl, ap, ◌∙◌, subst, ap₂, inl, inr, arith}
-use Rattle.std.specs.List.{between, ContainsAt as Has, AllByRecursion as All}
+use Rattle.std.specs.List.{between, ContainsAt, AllByRecursion}
 use Rattle.std.proofs.lemmas.List.Edits.{get_or-between, length-between}
 use Rattle.std.proofs.ByRecursion.{All-weaker}
 use Rattle.std.proofs.lemmas.List.{length-drop, take-take}
@@ -14,7 +14,7 @@ use Rattle.blocks.proofs.Parts.{drop_between}
 
 -- one of the records covers byte i
 abbrev Somewhere : List Handed → ℕ → Type 0
-Somewhere hs i = (h : Handed) × Has hs h × Covers h i
+Somewhere hs i = (h : Handed) × ContainsAt hs h × Covers h i
 
 further : (x : Handed) (hs : List Handed) (i : ℕ) → Somewhere hs i → Somewhere (x ∷ hs) i
 further x hs i (h, (k, l, e), c) = (h, (suc k, omega arith, e), c)
@@ -22,8 +22,8 @@ further x hs i (h, (k, l, e), c) = (h, (suc k, omega arith, e), c)
 module _ (f : List ℕ) (within : (k : ℕ) → k < blocks f → used_in (block k f) ≤ most_used) where
   -- these cover the used bytes from a place on
   record From (at : ℕ) (hs : List Handed) : Type 0 where
-    parts : All (InFile f) hs
-    low : All (λ h. at ≤ start h) hs
+    parts : AllByRecursion (InFile f) hs
+    low : AllByRecursion (λ h. at ≤ start h) hs
     disjoint : Disjoint hs
     last : CutLast hs
     used : (k i : ℕ) → k < blocks f → used_from k ≤ i → i < used_to k f → at ≤ i → Somewhere hs i

@@ -1,6 +1,6 @@
 -- What is handed out are parts of the file's used bytes, one after another, and all of them.
 use Rattle.std.specs.Prelude.{◌≡◌, ℕ, ◌+◌, ◌<◌, ◌≤◌, List, [], ◌∷◌, length, slice_index}
-use Rattle.std.specs.List.{between, ContainsAt as Has, AllByRecursion as All}
+use Rattle.std.specs.List.{between, ContainsAt, AllByRecursion}
 use Rattle.blocks.specs.Layout.{blocks, used_from, used_to, word_at}
 use Rattle.blocks.specs.Records.{Handed, whole, cut, head_size}
 
@@ -36,7 +36,7 @@ end (cut o n) = o + n
 -- each ends before a later one starts
 abbrev pub Disjoint : List Handed → Type 0
 Disjoint [] = Unit {0}
-Disjoint (h ∷ hs) = All (λ later. end h ≤ start later) hs × Disjoint hs
+Disjoint (h ∷ hs) = AllByRecursion (λ later. end h ≤ start later) hs × Disjoint hs
 
 -- a cut record is the last
 abbrev pub CutLast : List Handed → Type 0
@@ -50,7 +50,7 @@ Covers (whole o l b) i = (o ≤ i) × (i < o + head_size + length b)
 Covers (cut o n) i = o ≤ i
 
 pub record Covered (file : List ℕ) (hs : List Handed) : Type 0 where
-  pub parts : All (InFile file) hs
+  pub parts : AllByRecursion (InFile file) hs
   pub disjoint : Disjoint hs
   pub last : CutLast hs
-  pub used : (k i : ℕ) → k < blocks file → used_from k ≤ i → i < used_to k file → (h : Handed) × Has hs h × Covers h i
+  pub used : (k i : ℕ) → k < blocks file → used_from k ≤ i → i < used_to k file → (h : Handed) × ContainsAt hs h × Covers h i

@@ -1,5 +1,6 @@
 //! The operator's desk as a program: it reads lines, answers each, and ends at the end of its input or at `quit`.
 #![tactic(auto)]
+
 use anyhow::anyhow;
 use desk::{Denial, Desk, Grant};
 use std::env;

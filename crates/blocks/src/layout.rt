@@ -1,7 +1,7 @@
 //! What a block carries. Numbers are little-endian.
 ghost use Rattle.std.specs.Prelude.{◌≡◌, ◌+◌, ◌<◌, ◌≤◌, length};
 ghost use Rattle.rules.specs.Limits.{block_size};
-ghost use Rattle.blocks.specs.Layout.{begins, block, sum_in as sum_in_of, used_in as used_in_of, word as word_of, word_at};
+ghost use Rattle.blocks.specs.Layout.{begins, block, sum_in, used_in, word as word_of, word_at};
 
 use rules::limits::{BLOCK_SIZE, MOST_USED};
 
@@ -42,7 +42,7 @@ pub fn word_at(bytes: &[u8], i: usize) -> usize
 /// How many bytes of a block its records take.
 pub fn used_in(block: &[u8]) -> usize
     requires { length block.now ≡ block_size }
-    ensures value { result ≡ used_in_of block.now }
+    ensures value { result ≡ used_in block.now }
     ensures small { result < 65536 }
 {
     word_at(block, 2)
@@ -51,7 +51,7 @@ pub fn used_in(block: &[u8]) -> usize
 /// The sum that a block carries.
 pub fn sum_in(block: &[u8]) -> usize
     requires { length block.now ≡ block_size }
-    ensures { result ≡ sum_in_of block.now }
+    ensures { result ≡ sum_in block.now }
 {
     word_at(block, SUM_AT) + 65536 * word_at(block, SUM_AT + 2)
 }

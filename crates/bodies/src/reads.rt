@@ -2,7 +2,7 @@
 ghost use Rattle.std.specs.Prelude.{◌≡◌, ◌*◌, ◌^◌, ◌<◌, ◌≤◌, [], ◌∷◌, length, drop, Some, None};
 ghost use Rattle.rules.specs.Outcome.{viewed};
 ghost use Rattle.bodies.specs.Views.{Opens, bounded, listed};
-ghost use Rattle.bodies.specs.Bodies.{absent as absent_of, bound_in, bound_size, fit_bounded, fit_entries, fit_one, fits_bounded as fits_bounded_of, missing as missing_of, spread as spread_of, unfit as unfit_of, fits as fits_of, multiplier as multiplier_of, signed as signed_of, size as entry_size, weight as weight_of};
+ghost use Rattle.bodies.specs.Bodies.{absent as absent_of, bound_in, bound_size, fit_bounded, fit_entries, fit_one, fits_bounded, missing as missing_of, spread as spread_of, unfit as unfit_of, fits as fits_of, multiplier as multiplier_of, signed as signed_of, size as entry_size, weight as weight_of};
 
 use super::{Entries, Entry, Named, Shape};
 use blocks::word;
@@ -201,7 +201,7 @@ impl<'a> Entries<'a> {
 
 /// Whether so many bytes are a bound and entries with weights.
 fn fits_bounded(length: usize) -> bool
-    ensures { result ≡ fits_bounded_of length }
+    ensures { result ≡ fits_bounded length }
 {
     length >= BOUND_SIZE && Shape::Weights.fits(length - BOUND_SIZE)
 }

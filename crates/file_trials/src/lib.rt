@@ -2,7 +2,7 @@
 #![tactic(auto)]
 
 ghost use Rattle.std.specs.Prelude.{◌≡◌};
-ghost use Rattle.file_trials.specs.Following.{last_letter, longest_body as longest_body_of};
+ghost use Rattle.file_trials.specs.Following.{last_letter, longest_body};
 
 use blocks::Reader;
 use rules::Refusal;
@@ -24,7 +24,7 @@ pub fn last_letter(file: &[u8]) -> Result<Option<u8>, Refusal>
 
 /// The length of the longest body. A cut record counts with the used bytes that are left.
 pub fn longest_body(file: &[u8]) -> Result<usize, Refusal>
-    ensures { result ≡ longest_body_of file.now }
+    ensures { result ≡ longest_body file.now }
 {
     let mut longest: usize = 0;
     let mut reader = Reader::open(file)?;

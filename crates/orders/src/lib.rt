@@ -1,5 +1,6 @@
 //! The language of the desk: commands, and how a line is read as one.
 #![tactic(auto)]
+
 mod command;
 mod read;
 

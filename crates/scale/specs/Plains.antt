@@ -1,11 +1,12 @@
--- Whole numbers, pairs and residues keep the laws of a plain scale.
-use Rattle.std.specs.Prelude.{◌≡◌, ℕ, ◌+◌, ◌-◌, ◌%◌, ◌≤◌, max, ℤ, pos, ◌+ℤ◌, neg_ℤ, unsigned_abs, refl}
+-- Whole numbers, pairs and residues keep the laws of a plain scale; the first two, of an ordered one.
+use Rattle.std.specs.Prelude.{◌≡◌, ℕ, ◌+◌, ◌-◌, ◌%◌, ◌≤◌, max, true, ℤ, pos, ◌+ℤ◌, neg_ℤ, unsigned_abs, refl}
 use Rattle.std.proofs.Common.{sym, ap, ◌∙◌, mod-lt, add_assoc, add_comm, zero-add, mod-eq_of_lt, arith}
 use Rattle.std.proofs.Math.Nat.{mod-add-mod, add-mod-mod, mod_self, le-max_left, le-max_right, max-le}
 use Rattle.std.proofs.lemmas.Int.{ints}
-use Rattle.std.proofs.lemmas.Bool.{lt-ltb, ltb-true}
-use Rattle.scale.specs.Scales.{Plain}
-use Rattle.scale.specs.Makes.{pair, pairs, residues, whole}
+use Rattle.std.proofs.lemmas.Bool.{and_from, and_parts, lt-ltb, ltb-true}
+use Rattle.whole.proofs.Limiting.{decides_le}
+use Rattle.scale.specs.Scales.{Plain, Tested}
+use Rattle.scale.specs.Makes.{pair, pair_passes, pairs, residues, whole, whole_passes}
 
 sum_reach : (a b : ℤ) → unsigned_abs (a +ℤ b) ≤ unsigned_abs a + unsigned_abs b
 sum_reach a b = omega (arith, ints)
@@ -39,6 +40,15 @@ whole_plain = record {
   opp_reach = opposite_reach;
 }
 
+sum_passes : (a b : ℤ) → whole_passes a ≡ true → whole_passes b ≡ true → whole_passes (a +ℤ b) ≡ true
+sum_passes a b p q =
+    let x = (decides_le (pos 0) a).0 p in
+    let y = (decides_le (pos 0) b).0 q in
+    (decides_le (pos 0) (a +ℤ b)).1 (omega (arith, ints, x, y))
+
+pub whole_tested : Tested whole whole_passes
+whole_tested = record { nil_passes = refl; plus_passes = sum_passes }
+
 both_reach : (a b c d e f : ℕ) → e ≤ a + c → f ≤ b + d → max e f ≤ max a b + max c d
 both_reach a b c d e f h k =
     let l = le-max_left a b in
@@ -62,6 +72,15 @@ pairs_plain = record {
       let l = le-max_left (unsigned_abs a.left) (unsigned_abs a.right) in
       let r = le-max_right (unsigned_abs a.left) (unsigned_abs a.right) in
       max-le (omega (arith, opposite_reach a.left)) (omega (arith, opposite_reach a.right));
+}
+
+pub pairs_tested : Tested pairs pair_passes
+pairs_tested = record {
+  nil_passes = refl;
+  plus_passes = λ a b p q.
+      let x = and_parts (whole_passes a.left) (whole_passes a.right) p in
+      let y = and_parts (whole_passes b.left) (whole_passes b.right) q in
+      and_from _ _ (sum_passes a.left b.left x.0 y.0) (sum_passes a.right b.right x.1 y.1);
 }
 
 pub residues_plain : (m : ℕ) → 2 ≤ m → Plain (residues m)

@@ -1,8 +1,7 @@
 //! Whole numbers, pairs of them, and residues.
 ghost use Rattle.std.specs.Prelude.{◌≡◌, ◌<◌, ◌≤◌, MatchOption};
 ghost use Rattle.scale.specs.Makes.{WeighsRemainders, pair_passes, pairs, reduced, residues, whole, whole_passes};
-ghost use Rattle.scale.specs.Plains.{whole_plain, residues_plain, pairs_plain};
-ghost use Rattle.std.proofs.Common.{rules};
+ghost use Rattle.scale.specs.Plains.{whole_plain, whole_tested, residues_plain, pairs_plain, pairs_tested};
 
 use super::scales::{Ordered, Scale};
 
@@ -41,7 +40,7 @@ impl Scale for Whole {
 impl Ordered for Whole {
     ghost passes = { λ _. whole_passes };
 
-    ghost tested = { Prim.search rules };
+    ghost tested = { λ s. whole_tested };
 
     fn not_below_zero(&self, a: i64) -> bool {
         a >= 0
@@ -156,7 +155,7 @@ impl Scale for Pairs {
 impl Ordered for Pairs {
     ghost passes = { λ _. pair_passes };
 
-    ghost tested = { Prim.search rules };
+    ghost tested = { λ s. pairs_tested };
 
     fn not_below_zero(&self, a: Pair) -> bool {
         0 <= a.left && 0 <= a.right

@@ -26,7 +26,7 @@ pub fn table_holds()
 #[cfg(test)]
 mod books;
 #[cfg(test)]
-mod evidence;
+mod kinds;
 #[cfg(test)]
 mod tests;
 #[cfg(test)]

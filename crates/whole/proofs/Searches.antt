@@ -1,8 +1,8 @@
 -- The lowest number that passes a test.
 use Rattle.std.proofs.Common.{◌≡◌, ℕ, zero, suc, ◌<◌, Bool, true, false, cond, ◌⊎◌, Some, None, Option, sym, refl, ap, ◌∙◌, ap₂, inl, inr, arith}
-use Rattle.whole.specs.Counting.{lowest, or_else, AllFail, IsLowest}
+use Rattle.whole.specs.Counting.{lowest, or_else, AllFail, IsLowest, FindsLowest}
 
-split : (i n : ℕ) → i < suc n → (i < n) ⊎ (i ≡ n)
+pub split : (i n : ℕ) → i < suc n → (i < n) ⊎ (i ≡ n)
 split i n h = grind arith
 
 pub lowest_none : (n : ℕ) (f : ℕ → Bool) → AllFail n f → lowest n f ≡ None
@@ -29,3 +29,8 @@ grown n f None h = more n f (f n) refl h
 pub is_lowest : (n : ℕ) (f : ℕ → Bool) → IsLowest n f (lowest n f)
 is_lowest zero f = λ i h. absurd (omega arith)
 is_lowest (suc n) f = grown n f (lowest n f) (is_lowest n f)
+
+-- what the lowest is by its meaning it is by definition
+pub lowest_is : (n : ℕ) (f : ℕ → Bool) (r : Option ℕ) → IsLowest n f r → FindsLowest n f r
+lowest_is n f (Some i) h = (sym (lowest_some n f i h.0 h.1 h.2), h)
+lowest_is n f None h = (sym (lowest_none n f h), h)

@@ -17,3 +17,11 @@ AllFail n f = (i : ℕ) → i < n → f i ≡ false
 abbrev pub IsLowest : ℕ → (ℕ → Bool) → Option ℕ → Type 0
 IsLowest n f (Some i) = (i < n) × (f i ≡ true) × AllFail i f
 IsLowest n f None = AllFail n f
+
+-- r is the lowest by definition, and has its meaning
+abbrev pub FindsLowest : ℕ → (ℕ → Bool) → Option ℕ → Type 0
+FindsLowest n f r = (r ≡ lowest n f) × IsLowest n f r
+
+-- at each number below n the test gives what f says
+abbrev pub Computes : ℕ → (ℕ → Bool → Type 0) → (ℕ → Bool) → Type 0
+Computes n post f = (i : ℕ) (b : Bool) → i < n → post i b → b ≡ f i

@@ -9,7 +9,7 @@ mod rounding;
 #[cfg(test)]
 mod tests;
 
-pub use counting::{Test, lowest};
+pub use counting::lowest;
 pub use division::divide;
 pub use divisors::{divisor, row_divisor};
 pub use limits::{LIMIT, add_multiple, limited};

@@ -4,11 +4,14 @@ ghost use Rattle.rules.specs.declared.failure.Failure.TheVariants.{Refused as Re
 
 use super::refusal::Refusal;
 use std::alloc::{AllocError, AllocFailed};
+use thiserror::Error;
 
 /// Why a call that allocates was not granted.
-#[derive(Clone, Copy, Debug)]
+#[derive(Clone, Copy, Debug, Error)]
 pub enum Failure {
+    #[error(transparent)]
     Refused(Refusal),
+    #[error("out of memory")]
     Memory,
 }
 

@@ -2,21 +2,30 @@
 ghost use Rattle.std.specs.Prelude.{◌≡◌};
 ghost use Rattle.rules.specs.Faults.{fault_told, formal as formal_of};
 
-use std::fmt;
+use thiserror::Error;
 
-/// Each case with what the operator is told of it. A later layer adds its cases here, with their words below
+/// Each case with what the operator is told of it. A later layer adds its cases here, with their words,
 /// and their numbers in `tell` and in the specification's `fault_told`. `Other` is for a kind of evidence that
 /// this layer does not know.
-#[derive(Clone, Copy, PartialEq, Debug)]
+#[derive(Clone, Copy, PartialEq, Debug, Error)]
 pub enum Fault {
+    #[error("a body of {length} bytes does not fit here")]
     BodyLength { length: usize },
+    #[error("there is no place {place}")]
     MissingPlace { place: usize },
+    #[error("there is no line {line}")]
     MissingLine { line: usize },
+    #[error("there is no condition {condition}")]
     MissingCondition { condition: usize },
+    #[error("entry {entry} does not rise over the last one, or has the number 0")]
     EntryUnfit { entry: usize },
+    #[error("cue {cue} lowers the weight")]
     ColumnFalls { cue: usize },
+    #[error("cue {cue} takes from the set and gives nothing to it")]
     NoTrap { cue: usize },
+    #[error("the set has no token at the start")]
     TrapUnmarked,
+    #[error("the evidence is refused by its rule {number} at {detail}")]
     Other { number: u8, detail: usize },
 }
 
@@ -42,33 +51,6 @@ impl Fault {
     pub fn is_formal(&self) -> bool
         ensures { result ≡ formal_of self.now }
     {
-        let (number, _) = self.tell();
-        number >= 7 && number <= 9
-    }
-}
-
-/// The words for an operator.
-impl fmt::Display for Fault {
-    fn fmt<W: fmt::Write>(&self, f: &mut fmt::Formatter<W>) -> fmt::Result {
-        match *self {
-            Fault::BodyLength { length } => write!(f, "a body of {length} bytes does not fit here"),
-            Fault::MissingPlace { place } => write!(f, "there is no place {place}"),
-            Fault::MissingLine { line } => write!(f, "there is no line {line}"),
-            Fault::MissingCondition { condition } => write!(f, "there is no condition {condition}"),
-            Fault::EntryUnfit { entry } => write!(
-                f,
-                "entry {entry} does not rise over the last one, or has the number 0"
-            ),
-            Fault::ColumnFalls { cue } => write!(f, "cue {cue} lowers the weight"),
-            Fault::NoTrap { cue } => write!(
-                f,
-                "cue {cue} takes from the set and gives nothing to it"
-            ),
-            Fault::TrapUnmarked => write!(f, "the set has no token at the start"),
-            Fault::Other { number, detail } => write!(
-                f,
-                "the evidence is refused by its rule {number} at {detail}"
-            ),
-        }
+        matches!(self.tell(), (7..=9, _))
     }
 }

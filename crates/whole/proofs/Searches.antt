@@ -1,6 +1,6 @@
 -- The lowest number that passes a test.
-use Rattle.std.proofs.Common.{◌≡◌, ℕ, zero, suc, ◌<◌, Bool, true, false, cond, ◌⊎◌, Some, None, Option, sym, refl, ap, ◌∙◌, ap₂, inl, inr, arith}
-use Rattle.whole.specs.Counting.{lowest, or_else, AllFail, IsLowest, FindsLowest}
+use Rattle.std.proofs.Common.{◌≡◌, ℕ, zero, suc, ◌<◌, ◌≤◌, Bool, true, false, cond, ◌⊎◌, Some, None, Option, sym, refl, ap, ◌∙◌, ap₂, inl, inr, arith, MatchOption}
+use Rattle.whole.specs.Counting.{lowest, or_else, AllFail, IsLowest, FindsLowest, Computes}
 
 pub split : (i n : ℕ) → i < suc n → (i < n) ⊎ (i ≡ n)
 split i n h = grind arith
@@ -34,3 +34,10 @@ is_lowest (suc n) f = grown n f (lowest n f) (is_lowest n f)
 pub lowest_is : (n : ℕ) (f : ℕ → Bool) (r : Option ℕ) → IsLowest n f r → FindsLowest n f r
 lowest_is n f (Some i) h = (sym (lowest_some n f i h.0 h.1 h.2), h)
 lowest_is n f None h = (sym (lowest_none n f h), h)
+
+-- what a search in rising order finds, by the answers of the test
+pub found_lowest : (n : ℕ) (f : ℕ → Bool) (post : ℕ → Bool → Type 0) (r : Option ℕ) → Computes n post f
+    → MatchOption r ((k : ℕ) → 0 ≤ k → k < n → post k false) (λ i. (0 ≤ i) × (i < n) × post i true × ((k : ℕ) → 0 ≤ k → k < i → post k false)) → FindsLowest n f r
+found_lowest n f post (Some i) a h =
+    lowest_is n f (Some i) (h.1, sym (a i true h.1 h.2), λ k l. sym (a k false (omega (arith, l, h.1)) (h.3 k (omega arith) l)))
+found_lowest n f post None a h = lowest_is n f None (λ k l. sym (a k false l (h k (omega arith) l)))

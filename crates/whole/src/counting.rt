@@ -7,10 +7,5 @@ pub fn lowest<F: Fn(usize) -> bool>(n: usize, passes: F) -> Option<usize>
     requires { F.IsAlwaysCallable passes }
     ensures { (f : ℕ → Bool) → Computes n (F.post passes) f → FindsLowest n f result }
 {
-    for i in 0..n {
-        if passes(i) {
-            return Some(i);
-        }
-    }
-    None
+    (0..n).find(|i| passes(*i))
 }

@@ -21,9 +21,5 @@ pub fn row_divisor(row: &[i64]) -> u64
     ensures value { result ≡ row_divisor_of row.now }
     ensures greatest { GreatestOfRow row.now result }
 {
-    let mut all = 0;
-    for x in row {
-        all = divisor(all, x.unsigned_abs());
-    }
-    all
+    row.iter().fold(0, |all, x| divisor(all, x.unsigned_abs()))
 }

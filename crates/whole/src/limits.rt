@@ -11,11 +11,7 @@ pub fn limited(z: i128) -> Option<i64>
     ensures value { result ≡ held z }
     ensures checked { SomeIff result (Limited z) z }
 {
-    if -i128::from(LIMIT) <= z && z <= i128::from(LIMIT) {
-        Some(z as i64)
-    } else {
-        None
-    }
+    i64::try_from(z).ok().filter(|x| (-LIMIT..=LIMIT).contains(x))
 }
 
 /// A multiple, exact.

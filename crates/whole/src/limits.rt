@@ -11,7 +11,9 @@ pub fn limited(z: i128) -> Option<i64>
     ensures value { result ≡ held z }
     ensures checked { SomeIff result (Limited z) z }
 {
-    i64::try_from(z).ok().filter(|x| (-LIMIT..=LIMIT).contains(x))
+    i64::try_from(z)
+        .ok()
+        .filter(|x| (-LIMIT..=LIMIT).contains(x))
 }
 
 /// A multiple, exact.

@@ -5,6 +5,7 @@ use Rattle.rules.specs.Outcome.{◌>>=◌, need, none_such}
 use Rattle.rules.specs.declared.fault.Fault.{Fault}
 use Rattle.rules.specs.declared.fault.Fault.TheVariants.{BodyLength, MissingPlace, MissingLine, MissingCondition, EntryUnfit}
 use Rattle.blocks.specs.Layout.{word, word_at}
+pub use Rattle.bodies.specs.declared.Entry.{Entry}
 use Rattle.bodies.specs.declared.Named.{Named}
 use Rattle.bodies.specs.declared.Named.TheVariants.{Place, Line, Condition}
 use Rattle.bodies.specs.declared.Shape.{Shape}
@@ -31,10 +32,6 @@ abbrev pub bound_in : List ℕ → ℤ
 bound_in bs = signed 2147483648 (word_at bs 0 + 65536 * word_at bs 2)
 
 -- a place or a line, and its weight or multiplier
-pub record Entry : Type 0 where
-  pub name : ℕ
-  pub number : ℤ
-
 abbrev pub entry : ℕ → ℤ → Entry
 entry k z = record { name = k; number = z }
 

@@ -28,7 +28,7 @@ pub struct Entry {
     pub number: i64,
 }
 
-/// The entries of a body, read where they stand.
+/// The entries of a body, read where they stand. A copy gives them again.
 #[derive(Clone, Copy)]
 pub struct Entries<'a> {
     shape: Shape,

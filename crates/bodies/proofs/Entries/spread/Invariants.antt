@@ -5,7 +5,4 @@ use Rattle.bodies.specs.Views.{listed}
 use Rattle.bodies.proofs.Entries.spread.Given as goal
 
 abbrev pub invariant-loop-entry : goal.invariant-loop-entry
-invariant-loop-entry l = (spread_on l.numbers (listed l.left) ≡ spread (listed l.initial.left)) × (length l.numbers ≡ most_places)
-
-abbrev pub decreases-loop-entry : goal.decreases-loop-entry
-decreases-loop-entry l = length (listed l.left)
+invariant-loop-entry l = (spread_on l.numbers (listed l.entry-iterator) ≡ spread (listed l.self)) × (length l.numbers ≡ most_places)

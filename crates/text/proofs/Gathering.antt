@@ -1,8 +1,7 @@
 -- Numbers gathered from words, one after another.
-use Rattle.std.proofs.Common.{◌≡◌, ℕ, List, [], ◌∷◌, ◌++◌, Some, None, Ok, Err, sym, refl, ap, ◌∙◌, append_assoc, append-nil, arith}
+use Rattle.std.proofs.Common.{◌≡◌, ℕ, List, [], ◌∷◌, ◌++◌, Ok, Err, sym, refl, ap, append_assoc, append-nil}
 use Rattle.rules.specs.Outcome.{◌>>=◌}
 use Rattle.text.specs.Reading.{Read, as_number, all_numbers}
-use Rattle.text.specs.Words.{head, tail}
 use Rattle.text.specs.declared.problem.Problem.{Problem}
 
 -- numbers read before others
@@ -13,29 +12,16 @@ after_one : (ns : List ℕ) (n : ℕ) (o : Read (List ℕ)) → after ns (o >>= 
 after_one ns n (Ok ms) = ap Ok (sym (append_assoc ns (n ∷ []) ms))
 after_one ns n (Err e) = refl
 
-module _ (ns : List ℕ) where
-  pub gather_more : (ws : List (List ℕ)) (w : List ℕ) (n : ℕ) → Some w ≡ head ws → Ok n ≡ as_number w
-      → after ns (all_numbers ws) ≡ after (ns ++ n ∷ []) (all_numbers (tail ws))
+module _ (ns : List ℕ) (ws : List (List ℕ)) where
+  pub gather_more : (w : List ℕ) (vs : List (List ℕ)) (n : ℕ) → ws ≡ w ∷ vs → Ok n ≡ as_number w
+      → after ns (all_numbers ws) ≡ after (ns ++ n ∷ []) (all_numbers vs)
   unfolding all_numbers
-  gather_more [] w n h e = let z : ◌≡◌ {A = ℕ} 0 1 = cc in absurd (omega arith)
-  gather_more (v ∷ ws) w n h e =
-      let same : v ≡ w = cc in
-      let read : as_number v ≡ Ok n = ap as_number same ∙ sym e in
-      ap (λ o. after ns (o >>= λ m. all_numbers ws >>= λ ms. Ok (m ∷ ms))) read ∙ after_one ns n (all_numbers ws)
+  gather_more w vs n e read = rw (e, ← read) (after_one ns n (all_numbers vs))
 
-  pub gather_stop : (ws : List (List ℕ)) (w : List ℕ) (p : Problem) → Some w ≡ head ws → Err p ≡ as_number w → after ns (all_numbers ws) ≡ Err p
+  pub gather_stop : (w : List ℕ) (vs : List (List ℕ)) (p : Problem) → ws ≡ w ∷ vs → Err p ≡ as_number w → after ns (all_numbers ws) ≡ Err p
   unfolding all_numbers
-  gather_stop [] w p h e = let z : ◌≡◌ {A = ℕ} 0 1 = cc in absurd (omega arith)
-  gather_stop (v ∷ ws) w p h e =
-      let same : v ≡ w = cc in
-      let read : as_number v ≡ Err p = ap as_number same ∙ sym e in
-      ap (λ o. after ns (o >>= λ m. all_numbers ws >>= λ ms. Ok (m ∷ ms))) read
+  gather_stop w vs p e read = rw (e, ← read)
 
-  pub gather_end : (ws : List (List ℕ)) → None ≡ head ws → after ns (all_numbers ws) ≡ Ok ns
+  pub gather_end : ws ≡ [] → after ns (all_numbers ws) ≡ Ok ns
   unfolding all_numbers
-  gather_end [] h = ap Ok (append-nil ns)
-  gather_end (w ∷ ws) h = let z : ◌≡◌ {A = ℕ} 0 1 = cc in absurd (omega arith)
-
-pub none_left : (ws : List (List ℕ)) → None ≡ head ws → tail ws ≡ []
-none_left [] h = refl
-none_left (w ∷ ws) h = let z : ◌≡◌ {A = ℕ} 0 1 = cc in absurd (omega arith)
+  gather_end e = rw e (ap Ok (append-nil ns))

@@ -1,64 +1,65 @@
 -- How a line's words come off its front.
-use Rattle.std.proofs.Common.{◌≡◌, ℕ, zero, suc, ◌-◌, ◌<◌, ◌≤◌, true, false, cond, List, [], ◌∷◌, length, get_or, take, drop, sym, refl, ap, ◌∙◌, inl, inr, add-zero, arith}
-use Rattle.std.proofs.lemmas.List.{length-drop, get_or-drop, nil_from_length}
-use Rattle.std.proofs.lemmas.Bool.{cases_lt, true≢false}
-use Rattle.text.specs.Words.{blank, ends, onto, words}
+use Rattle.std.proofs.Common.{◌≡◌, ℕ, ◌<◌, ◌≤◌, true, false, not, List, [], ◌∷◌, length, get_or, take, drop, position, Option, None, Some, sym, refl, ap, ◌∙◌, inl, inr, drop-cons, one-add, arith}
+use Rattle.std.specs.List.{position_or_len}
+use Rattle.std.specs.Option.{unwrap_or}
+use Rattle.std.proofs.lemmas.List.Sums.{prefix_len-le-length, position_or_len_is}
+use Rattle.std.proofs.lemmas.List.Quantifiers.{position-Some}
+use Rattle.std.proofs.lemmas.List.{at_drop_all}
+use Rattle.std.proofs.lemmas.Bool.{cases_Bool, cases_lt, cond-true, not-true, lt-ltb, le-ltb}
+use Rattle.text.specs.Words.{blank, ends, words}
 
--- blanks in front make no difference
-past_blanks : (n : ℕ) (line : List ℕ) → n ≤ length line → ((k : ℕ) → k < n → blank (get_or line k 0) ≡ true) → words (drop n line) ≡ words line
+-- where the first byte of a word stands, or else the line ends
+abbrev start : List ℕ → ℕ
+start line = position_or_len (λ b. not (blank b)) line
+
+-- where the first blank stands, or else the line ends
+abbrev pub end : List ℕ → ℕ
+end line = position_or_len blank line
+
+past_blanks : (line : List ℕ) → words (drop (start line) line) ≡ words line
 unfolding words
-past_blanks zero line h f = refl
-past_blanks (suc n) [] h f = refl
-past_blanks (suc n) (b ∷ bs) h f =
-    let e : blank b ≡ true = f 0 (omega arith) in
-    past_blanks n bs (omega arith) (λ k l. f (suc k) (omega arith))
-    ∙ sym (ap (λ t. cond t (words bs) (cond (ends bs) ((b ∷ []) ∷ words bs) (onto b (words bs)))) e)
+past_blanks [] = refl
+past_blanks (b ∷ bs) = elim (cases_Bool (blank b)) [
+  | inl t ↦ rw (t, one-add) (past_blanks bs)
+  | inr f ↦ rw (f, f)
+]
 
-ends_at_end : (line : List ℕ) → (0 < length line → blank (get_or line 0 0) ≡ true) → ends line ≡ true
-ends_at_end [] f = refl
-ends_at_end (b ∷ bs) f = f (omega arith)
-
-goes_on : (line : List ℕ) → 0 < length line → blank (get_or line 0 0) ≡ false → ends line ≡ false
-goes_on [] h f = absurd (omega arith)
-goes_on (b ∷ bs) h f = f
+no_front : (line : List ℕ) → ends line ≡ true → end line ≡ 0
+no_front [] e = refl
+no_front (b ∷ bs) e = rw e
 
 -- a word in front is the first
-word_first : (n : ℕ) (line : List ℕ) → 0 < n → n ≤ length line → ((k : ℕ) → k < n → blank (get_or line k 0) ≡ false)
-    → (n < length line → blank (get_or line n 0) ≡ true) → words line ≡ take n line ∷ words (drop n line)
+front_word : (line : List ℕ) → ends line ≡ false → words line ≡ take (end line) line ∷ words (drop (end line) line)
 unfolding words
-word_first zero line p h f g = absurd (omega arith)
-word_first (suc n) [] p h f g = absurd (omega arith)
-word_first (suc zero) (b ∷ bs) p h f g =
-    let e : blank b ≡ false = f 0 (omega arith) in
-    let d : ends bs ≡ true = ends_at_end bs (λ l. g (omega arith)) in
-    rw (e, d)
-word_first (suc (suc n)) (b ∷ bs) p h f g =
-    let e : blank b ≡ false = f 0 (omega arith) in
-    let d : ends bs ≡ false = goes_on bs (omega arith) (f 1 (omega arith)) in
-    let next = word_first (suc n) bs (omega arith) (omega arith) (λ k l. f (suc k) (omega arith)) (λ l. g (omega arith)) in
-    rw (e, d, next)
+front_word [] e = cc
+front_word (b ∷ bs) e = elim (cases_Bool (ends bs)) [
+  | inl t ↦ let z = no_front bs t in rw (e, t, z)
+  | inr f ↦ rw (e, f, one-add, front_word bs f)
+]
 
--- a line cut after s blanks
-module _ (line cut : List ℕ) (s : ℕ) (is_cut : cut ≡ drop s line) (within : s ≤ length line) (blanks : (k : ℕ) → k < s → blank (get_or line k 0) ≡ true) where
-  skipped : words line ≡ words cut
-  skipped = sym (past_blanks s line within blanks) ∙ ap words (sym is_cut)
+begins : (line : List ℕ) (i : ℕ) → i < length line → blank (get_or line i 0) ≡ false → ends (drop i line) ≡ false
+begins line i h e = rw (drop-cons line i 0 h) e
 
-  -- n bytes are left up to a blank or the end
-  pub next_word : (n : ℕ) → 0 < n → n ≤ length cut → ((k : ℕ) → k < n → blank (get_or cut k 0) ≡ false)
-      → (n < length cut → blank (get_or cut n 0) ≡ true) → words line ≡ take n cut ∷ words (drop n cut)
-  next_word n p h f g = skipped ∙ word_first n cut p h f g
+-- what the searches for a word's start and end find
+pub no_word : (line : List ℕ) → None ≡ position (λ b. not (blank b)) line → words line ≡ []
+unfolding words
+no_word line e = elim (cases_lt (start line) (length line)) [
+  | inl h ↦ let s = cond-true _ (Some (start line)) None (lt-ltb _ _ h) in cc
+  | inr h ↦ sym (past_blanks line) ∙ at_drop_all words line (start line) h
+]
 
-  -- none is
-  pub no_word : (n : ℕ) → n ≡ 0 → (s < length line → blank (get_or line s 0) ≡ false) → (n < length cut → blank (get_or cut n 0) ≡ true)
-      → (words line ≡ []) × (words (drop n cut) ≡ [])
-  unfolding words
-  no_word zero z stop start =
-      let long : length cut ≡ length line - s = ap length is_cut ∙ length-drop s line in
-      let same : get_or cut 0 0 ≡ get_or line s 0 = ap (λ l. get_or l 0 0) is_cut ∙ get_or-drop s line 0 0 ∙ ap (λ i. get_or line i 0) (add-zero s) in
-      let short : length cut ≡ 0 = elim (cases_lt s (length line)) [
-        | inl h ↦ absurd (true≢false (sym (start (omega arith)) ∙ ap blank same ∙ stop h))
-        | inr h ↦ omega arith
-      ] in
-      let none : words cut ≡ [] = ap words (nil_from_length cut short) in
-      (skipped ∙ none, none)
-  no_word (suc n) z stop start = absurd (omega arith)
+end_found : (line : List ℕ) → unwrap_or (position blank line) (length line) ≡ end line
+end_found line = elim (cases_lt (end line) (length line)) [
+  | inl h ↦ rw (lt-ltb _ _ h)
+  | inr h ↦ let n = prefix_len-le-length (λ b. not (blank b)) line in rw (le-ltb _ _ h) (omega arith)
+]
+
+pub first_word : (line cut : List ℕ) (i n : ℕ) (o : Option ℕ) → Some i ≡ position (λ b. not (blank b)) line → cut ≡ drop i line
+    → o ≡ position blank cut → n ≡ unwrap_or o (length cut) → (n ≤ length cut) × (words line ≡ take n cut ∷ words (drop n cut))
+first_word line cut i n o e is_cut f g =
+    let found = position-Some (λ b. not (blank b)) line i 0 (sym e) in
+    let at_end : n ≡ end cut = g ∙ ap (λ p. unwrap_or p (length cut)) f ∙ end_found cut in
+    let at_start : start line ≡ i = position_or_len_is (λ b. not (blank b)) line i 0 (omega arith) found.2 (λ _. found.1) in
+    let front = front_word cut (rw is_cut (begins line i found.0 (not-true _ found.1))) in
+    let skipped = sym (past_blanks line) ∙ ap (λ k. words (drop k line)) at_start ∙ ap words (sym is_cut) in
+    rw at_end (prefix_len-le-length (λ b. not (blank b)) cut, skipped ∙ front)

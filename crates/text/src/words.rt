@@ -1,7 +1,7 @@
 //! The words of a line, one after another.
-ghost use Rattle.std.specs.Prelude.{◌≡◌, ℕ, ◌<◌, ◌≤◌, not, length, slice_index};
-ghost use Rattle.std.specs.Option.{option_map};
-ghost use Rattle.text.specs.Words.{blank as blank_of, words, remaining, head, tail};
+ghost use Rattle.std.specs.Prelude.{◌≡◌, not, position};
+ghost use Rattle.std.specs.Iterator.{YieldsFirstRef, item_count};
+ghost use Rattle.text.specs.Words.{blank as blank_of, words, remaining as unread};
 
 mod reads;
 
@@ -17,36 +17,42 @@ fn is_blank(byte: u8) -> bool
     byte == b' ' || byte == b'\t'
 }
 
-/// How many bytes at the front are all blanks, or all none.
-fn run_length(line: &[u8], blank: bool) -> usize
-    ensures within { result ≤ length line.now }
-    ensures before { (k : ℕ) → k < result → blank_of (slice_index line.now k) ≡ blank }
-    ensures ends { result < length line.now → blank_of (slice_index line.now result) ≡ not blank }
+/// Where the first byte of a word stands.
+fn word_start(line: &[u8]) -> Option<usize>
+    ensures { result ≡ position (λ byte. not (blank_of byte)) line.now }
 {
-    for (i, byte) in line.iter().enumerate() {
-        if is_blank(*byte) != blank {
-            return i;
-        }
-    }
-    line.len()
+    line.iter().position(|byte| !is_blank(*byte))
+}
+
+/// Where the first blank stands.
+fn word_end(line: &[u8]) -> Option<usize>
+    ensures { result ≡ position blank_of line.now }
+{
+    line.iter().position(|byte| is_blank(*byte))
 }
 
 impl<'a> Words<'a> {
     /// Stands before the first word of a line.
     pub fn new(line: &'a [u8]) -> Words<'a>
-        ensures { remaining result ≡ words line.now }
+        ensures { unread result ≡ words line.now }
     {
         Words { rest: line }
     }
+}
 
-    /// The next word, a part of the line; none at its end.
-    pub fn next(&mut self) -> Option<&'a [u8]>
-        ensures value { option_map (λ x. x.now) result ≡ head (remaining self.old) }
-        ensures after { remaining self.new ≡ tail (remaining self.old) }
-    {
-        let line = &self.rest[run_length(self.rest, true)..];
-        let (word, rest) = line.split_at(run_length(line, false));
+/// Each word is a part of the line.
+impl<'a> Iterator for Words<'a> {
+    type Item = &'a [u8];
+
+    ghost next_gives = { YieldsFirstRef unread };
+
+    ghost remaining = { item_count unread };
+
+    fn next(&mut self) -> Option<&'a [u8]> {
+        let line = &self.rest[word_start(self.rest)?..];
+        let end = word_end(line).unwrap_or(line.len());
+        let (word, rest) = line.split_at(end);
         self.rest = rest;
-        if word.is_empty() { None } else { Some(word) }
+        Some(word)
     }
 }

@@ -41,6 +41,7 @@ impl<'a> Words<'a> {
         ensures after { OnOk result (remaining self.new ≡ []) }
     {
         let mut numbers = Vec::new(heap);
+        // A `for` over `self` proves nothing of the words left after it.
         while let Some(word) = self.next() {
             let number = as_number(word)?;
             numbers.push(number)?;

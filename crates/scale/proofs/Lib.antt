@@ -1,3 +1,3 @@
 pub mod Multiples
 pub mod Remainders
-pub mod Weights
+pub mod PlainSums

@@ -1,5 +1,6 @@
 -- Multiples and weighted sums on a scale.
-use Rattle.std.specs.Prelude.{◌≡◌, ℕ, zero, suc, ◌≤◌, true, List, slice_index_or}
+use Rattle.std.specs.Prelude.{◌≡◌, ℕ, zero, suc, ◌+◌, ◌≤◌, true, List, slice_index_or}
+use Rattle.rules.specs.Limits.{most_tokens}
 use Rattle.scale.specs.Scales.{Group}
 
 -- the n-fold sum of a weight
@@ -26,3 +27,11 @@ most_reach = 32768
 
 abbrev pub Light : {W : Type 0} → Group W → List W → Type 0
 Light {W} G ws = (p : ℕ) → (G.on (weight_at G ws p) ≡ true) × (G.reach (weight_at G ws p) ≤ most_reach)
+
+-- what is answered at place p counts at most so many tokens
+abbrev pub FewAt : (ℕ → ℕ × ℕ → Type 0) → ℕ → Type 0
+FewAt post p = (c : ℕ × ℕ) → post p c → c.0 + c.1 ≤ most_tokens
+
+-- what is answered at place p is how many more, and how many fewer
+abbrev pub CountsAt : (ℕ → ℕ × ℕ → Type 0) → (more fewer : ℕ → ℕ) → ℕ → Type 0
+CountsAt post more fewer p = (c : ℕ × ℕ) → post p c → c ≡ (more p, fewer p)

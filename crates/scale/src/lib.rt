@@ -7,4 +7,4 @@ mod sums;
 
 pub use makes::{Pair, Pairs, Residues, Whole};
 pub use scales::{Ordered, Scale};
-pub use sums::{Counts, weigh};
+pub use sums::Weights;

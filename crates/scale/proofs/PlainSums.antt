@@ -1,5 +1,5 @@
 -- What the laws of a plain scale give of multiples and weighted sums.
-use Rattle.std.proofs.Common.{◌≡◌, ℕ, zero, suc, ◌+◌, ◌-◌, ◌*◌, ◌^◌, ◌<◌, ◌≤◌, true, sym, refl, ap, ◌∙◌, suc-add, mul-le-mul_left, zero-add, arith}
+use Rattle.std.proofs.Common.{◌≡◌, ℕ, zero, suc, ◌+◌, ◌-◌, ◌*◌, ◌^◌, ◌<◌, ◌≤◌, true, sym, refl, ap, ◌∙◌, suc-add, add-one, mul-le-mul_left, zero-add, arith}
 use Rattle.rules.specs.Limits.{most_tokens}
 use Rattle.scale.specs.Scales.{Group, Plain}
 use Rattle.scale.specs.Sums.{difference, most_reach, times, weighed}
@@ -97,3 +97,18 @@ module _ {W : Type 0} (G : Group W) (L : Plain G) where
     weighed_fired m i o (suc n) le =
         (λ j. G.plus (weighed_fired m i o n (λ p h. le p (omega arith)) j) (difference_fired (m n) (i n) (o n) (ws n) (le n (omega arith)) (on n) j))
         ∙ interchange _ _ _ _
+
+module _ {W : Type 0} (G : Group W) (more fewer : ℕ → ℕ) (ws : ℕ → W) where
+  pub weighed_none : weighed G more fewer ws 0 ≡ G.nil
+  unfolding weighed
+  weighed_none = refl
+
+  -- one place more
+  pub weighed_more : (n : ℕ) → weighed G more fewer ws (n + 1) ≡ G.plus (weighed G more fewer ws n) (difference G (more n) (fewer n) (ws n))
+  unfolding weighed
+  weighed_more n = ap (weighed G more fewer ws) (add-one n)
+
+pub ruleset weighing = (weighed_none, weighed_more)
+
+-- what a difference of counts times a weight comes to
+pub ruleset differences = (times_on, times_light, difference_on, difference_light, difference_nil)

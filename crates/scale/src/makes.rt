@@ -1,5 +1,5 @@
 //! Whole numbers, pairs of them, and residues.
-ghost use Rattle.std.specs.Prelude.{◌≡◌, ◌<◌, ◌≤◌, MatchOption};
+ghost use Rattle.std.specs.Prelude.{◌≡◌, ◌%◌, ◌<◌, ◌≤◌, MatchOption};
 ghost use Rattle.scale.specs.Makes.{WeighsRemainders, pair_passes, pairs, reduced, residues, whole, whole_passes};
 ghost use Rattle.scale.specs.Plains.{whole_plain, whole_tested, residues_plain, pairs_plain, pairs_tested};
 
@@ -7,7 +7,7 @@ use super::scales::{Ordered, Scale};
 
 /// Whole numbers.
 #[derive(Clone, Copy)]
-pub struct Whole {}
+pub struct Whole;
 
 impl Scale for Whole {
     type Weight = i64;
@@ -56,6 +56,7 @@ pub struct Residues {
 
 impl Residues {
     /// The residues of a modulus from 2 on. They weigh what the whole numbers' weight leaves.
+    #[tactic(auto, using(crate::proofs::Remainders::weighs_remainders))]
     pub fn new(modulus: u16) -> Option<Residues>
         ensures { MatchOption result (modulus < 2) (λ s. (s.modulus ≡ modulus) × WeighsRemainders modulus) }
     {
@@ -71,6 +72,13 @@ impl Residues {
         ensures below { result < self.now.modulus }
     {
         number.rem_euclid(i64::from(self.modulus)) as u16
+    }
+
+    /// The remainder of a number that is not below zero.
+    fn remainder(&self, number: u32) -> u16
+        ensures { result ≡ number % self.now.modulus }
+    {
+        (number % u32::from(self.modulus)) as u16
     }
 }
 
@@ -90,28 +98,44 @@ impl Scale for Residues {
     }
 
     fn sum(&self, a: u16, b: u16) -> u16 {
-        ((u32::from(a) + u32::from(b)) % u32::from(self.modulus)) as u16
+        self.remainder(u32::from(a) + u32::from(b))
     }
 
     fn opposite(&self, a: u16) -> u16 {
-        (self.modulus - a) % self.modulus
+        self.remainder(u32::from(self.modulus - a))
     }
 
+    #[tactic(auto, using(crate::proofs::Multiples::residue_times))]
     fn multiple(&self, n: u16, a: u16) -> u16 {
-        (u32::from(n) * u32::from(a) % u32::from(self.modulus)) as u16
+        self.remainder(u32::from(n) * u32::from(a))
     }
 }
 
 /// Two whole numbers.
-#[derive(Clone, Copy, PartialEq, Debug)]
+#[derive(Clone, Copy, PartialEq, Debug, Default)]
 pub struct Pair {
     pub left: i64,
     pub right: i64,
 }
 
+impl Pair {
+    /// Each part changed.
+    fn map<F: Fn(i64) -> i64>(self, change: F) -> Pair
+        requires left { F.pre change self.left }
+        requires right { F.pre change self.right }
+        ensures left { F.post change self.left result.left }
+        ensures right { F.post change self.right result.right }
+    {
+        Pair {
+            left: change(self.left),
+            right: change(self.right),
+        }
+    }
+}
+
 /// Pairs of whole numbers, added part by part.
 #[derive(Clone, Copy)]
-pub struct Pairs {}
+pub struct Pairs;
 
 impl Scale for Pairs {
     type Weight = Pair;
@@ -121,34 +145,26 @@ impl Scale for Pairs {
     ghost plain = { λ s. pairs_plain };
 
     fn zero(&self) -> Pair {
-        Pair { left: 0, right: 0 }
+        Pair::default()
     }
 
     fn is_zero(&self, a: Pair) -> bool {
-        a.left == 0 && a.right == 0
+        a == Pair::default()
     }
 
     fn sum(&self, a: Pair, b: Pair) -> Pair {
-        let whole = Whole {};
         Pair {
-            left: whole.sum(a.left, b.left),
-            right: whole.sum(a.right, b.right),
+            left: Whole.sum(a.left, b.left),
+            right: Whole.sum(a.right, b.right),
         }
     }
 
     fn opposite(&self, a: Pair) -> Pair {
-        Pair {
-            left: -a.left,
-            right: -a.right,
-        }
+        a.map(|part| Whole.opposite(part))
     }
 
     fn multiple(&self, n: u16, a: Pair) -> Pair {
-        let whole = Whole {};
-        Pair {
-            left: whole.multiple(n, a.left),
-            right: whole.multiple(n, a.right),
-        }
+        a.map(|part| Whole.multiple(n, part))
     }
 }
 
@@ -158,6 +174,6 @@ impl Ordered for Pairs {
     ghost tested = { λ s. pairs_tested };
 
     fn not_below_zero(&self, a: Pair) -> bool {
-        0 <= a.left && 0 <= a.right
+        Whole.not_below_zero(a.left) && Whole.not_below_zero(a.right)
     }
 }

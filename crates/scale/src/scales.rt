@@ -15,6 +15,8 @@ pub trait Scale {
     fn is_zero(&self, a: Self::Weight) -> bool
         ensures { Decides result (a ≡ (group self.now).nil) };
 
+    // Which weights are on a scale and how far they reach depends on the scale's value, as on a modulus, so no
+    // type of weights can say it.
     fn sum(&self, a: Self::Weight, b: Self::Weight) -> Self::Weight
         requires reach { (group self.now).reach a + (group self.now).reach b < 2 ^ 62 }
         requires on { ((group self.now).on a ≡ true) × ((group self.now).on b ≡ true) }

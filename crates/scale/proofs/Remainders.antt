@@ -1,6 +1,7 @@
 -- Residues weigh the remainder of the whole weight.
 use Rattle.std.proofs.Common.{◌≡◌, ℕ, zero, suc, ◌+◌, ◌-◌, ◌*◌, ◌/◌, ◌%◌, ◌<◌, ℤ, pos, negsuc, ◌+ℤ◌, ◌*ℤ◌, neg_ℤ, nat_abs, sym, refl, ap, ◌∙◌, subst, mod-lt, arith}
 use native.Mathlib.Nat.{mod-add-div', zero-mod}
+use Rattle.std.specs.Int.{int_div_euclid}
 use Rattle.std.proofs.lemmas.Int.{ints}
 use Rattle.whole.proofs.Ints.{add_mul, neg_mul}
 use Rattle.whole.proofs.Raising.{reduced as whole_parts}
@@ -13,17 +14,14 @@ record Parts (m : ℕ) (z : ℤ) : Type 0 where
   multiple : ℤ
   whole : z ≡ pos (reduced m z) +ℤ multiple *ℤ pos m
 
-moved : (z e P N : ℤ) → e ≡ z +ℤ P → N ≡ neg_ℤ P → z ≡ e +ℤ N
-moved z e P N h k = omega (arith, ints)
-
 parts : (m : ℕ) → 0 < m → (z : ℤ) → Parts m z
 parts m h z =
     let r = whole_parts z m h in
     let is : reduced m z ≡ r.0 = ap nat_abs r.1.value in
     record {
       below = subst (λ (e : ℕ). e < m) (sym is) r.1.small;
-      multiple = neg_ℤ r.1.equal.0;
-      whole = moved z _ _ _ (ap pos is ∙ r.1.equal.1) (neg_mul r.1.equal.0 (pos m));
+      multiple = int_div_euclid z (pos m);
+      whole = omega (arith, ints, ap pos is, r.1.whole);
     }
 
 unique : (m a b : ℕ) (k : ℤ) → a < m → b < m → pos a ≡ pos b +ℤ k *ℤ pos m → a ≡ b

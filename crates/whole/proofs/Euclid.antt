@@ -1,5 +1,5 @@
 -- Euclid's rule finds the greatest common divisor, of two numbers and of a row.
-use Rattle.std.proofs.Common.{◌≡◌, ℕ, zero, suc, ◌%◌, ◌<◌, ◌≤◌, List, [], ◌∷◌, get_or, ℤ, pos, nat_abs, fold, sym, refl, ap, subst, mod-lt, arith}
+use Rattle.std.proofs.Common.{◌≡◌, ℕ, zero, suc, ◌%◌, ◌<◌, ◌≤◌, List, [], ◌∷◌, get_or, ℤ, pos, nat_abs, fold, sym, refl, subst, mod-lt, arith}
 use Prim.Native.Nat.{◌∣◌}
 use native.Mathlib.Nat.{dvd_refl, dvd-zero, dvd_trans, dvd-mod_iff, eq-zero_of_zero-dvd}
 use Rattle.std.proofs.lemmas.Int.{ints}
@@ -17,9 +17,6 @@ turns_alike (suc m) (suc n) a (suc b) h k =
     let less : a % suc b < suc b = mod-lt a (omega arith) in
     turns_alike m n (suc b) (a % suc b) (omega arith) (omega arith)
 
-pub divisor_none : (a b : ℕ) → b ≡ 0 → divisor a b ≡ a
-divisor_none a b e = ap (divisor a) e
-
 pub divisor_turn : (a b : ℕ) → 0 < b → divisor a b ≡ divisor b (a % b)
 divisor_turn a zero h = absurd (omega arith)
 divisor_turn a (suc b) h =
@@ -27,7 +24,7 @@ divisor_turn a (suc b) h =
     turns_alike b (a % suc b) (suc b) (a % suc b) (omega arith) (omega arith)
 
 -- ---- the greatest
-turn_greatest : (a b g : ℕ) → Greatest b (a % b) g → Greatest a b g
+pub turn_greatest : (a b g : ℕ) → Greatest b (a % b) g → Greatest a b g
 turn_greatest a b g w = record {
   first = (dvd-mod_iff g {m = a} {n = b} w.first).0 w.second;
   second = w.first;

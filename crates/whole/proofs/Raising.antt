@@ -1,7 +1,7 @@
 -- Rounding up, and raising to a remainder.
 use Rattle.std.proofs.Common.{◌≡◌, ℕ, suc, ◌-◌, ◌/◌, ◌%◌, ◌<◌, false, ltb, ℤ, pos, negsuc, ◌+ℤ◌, ◌-ℤ◌, ◌*ℤ◌, neg_ℤ, nat_abs, ◌≤ℤ◌, ◌<ℤ◌, sym, refl, subst, mod-lt, div-add-mod', arith}
 use lib.Signed.{lt_z, rem_z}
-use Rattle.std.specs.Int.{int_rem_euclid}
+use Rattle.std.specs.Int.{int_div_euclid, int_rem_euclid}
 use Rattle.std.proofs.lemmas.Int.{ints}
 use Rattle.std.proofs.lemmas.Bool.{cond_both, cond-false, ltb-false, ltb-true}
 use Rattle.whole.specs.Rounding.{rounded_up, RoundsUp, risen, Congruent, Rises}
@@ -37,6 +37,35 @@ rounds_up (negsuc a) g some =
     subst (RoundsUp (negsuc a) g) (sym (up_below (negsuc a) g (omega (arith, ints))))
     (rounds (negsuc a) (neg_ℤ q) g (suc a % g) (mod-lt (suc a) some) (omega (arith, ints)))
 
+-- ---- the quotient and the remainder
+pub record Reduced (z : ℤ) (m e : ℕ) : Type 0 where
+  pub value : int_rem_euclid z (pos m) ≡ pos e
+  pub small : e < m
+  pub whole : int_div_euclid z (pos m) *ℤ pos m +ℤ pos e ≡ z
+
+pub reduced : (z : ℤ) (m : ℕ) → 0 < m → (e : ℕ) × Reduced z m e
+reduced (pos a) m some =
+    let whole = div-add-mod' a m in
+    (a % m, record { value = refl; small = mod-lt a some; whole = omega (arith, ints) })
+reduced (negsuc a) m some =
+    let whole = div-add-mod' a m in
+    let less = mod-lt a some in
+    let n = neg_mul (pos (suc (a / m))) (pos m) in
+    (m - 1 - a % m, record { value = refl; small = omega arith; whole = omega (arith, ints) })
+
+-- the opposite of the opposite rounded down
+pub opposite_rounded : (b : ℤ) (g : ℕ) → 0 < g → neg_ℤ (int_div_euclid (neg_ℤ b) (pos g)) ≡ rounded_up b g
+opposite_rounded b g some =
+    let e = reduced (neg_ℤ b) g some in
+    let whole = e.1.whole in
+    let q = int_div_euclid (neg_ℤ b) (pos g) in
+    let n = neg_mul q (pos g) in
+    let here = rounds b (neg_ℤ q) g e.0 e.1.small (omega (arith, ints)) in
+    let there = rounds_up b g some in
+    let low = here.least (rounded_up b g) there.reaches in
+    let high = there.least (neg_ℤ q) here.reaches in
+    omega (arith, ints)
+
 -- ---- raised to a remainder
 -- less than m above b
 rises : (b s r : ℤ) (m e : ℕ) → e < m → r ≡ b +ℤ pos e → Congruent m r s → Rises b s m r
@@ -51,25 +80,11 @@ rises b s r m e small is equal = record {
       omega (arith, ints);
 }
 
--- z lies a multiple of m from its remainder
-pub record Reduced (z : ℤ) (m e : ℕ) : Type 0 where
-  pub value : int_rem_euclid z (pos m) ≡ pos e
-  pub small : e < m
-  pub equal : Congruent m (pos e) z
-
-pub reduced : (z : ℤ) (m : ℕ) → 0 < m → (e : ℕ) × Reduced z m e
-reduced (pos a) m some =
-    let whole = div-add-mod' a m in
-    let n = neg_mul (pos (a / m)) (pos m) in
-    (a % m, record { value = refl; small = mod-lt a some; equal = (neg_ℤ (pos (a / m)), omega (arith, ints)) })
-reduced (negsuc a) m some =
-    let whole = div-add-mod' a m in
-    let less = mod-lt a some in
-    (m - 1 - a % m, record { value = refl; small = omega arith; equal = (pos (suc (a / m)), omega (arith, ints)) })
-
 pub risen_rises : (b s : ℤ) (m : ℕ) → 0 < m → Rises b s m (risen b s m)
 risen_rises b s m some =
     let e = reduced (s -ℤ b) m some in
     let is = e.1.value in
-    let equal = e.1.equal.1 in
-    rises b s (risen b s m) m e.0 e.1.small (omega (arith, ints)) (e.1.equal.0, omega (arith, ints))
+    let whole = e.1.whole in
+    let q = int_div_euclid (s -ℤ b) (pos m) in
+    let n = neg_mul q (pos m) in
+    rises b s (risen b s m) m e.0 e.1.small (omega (arith, ints)) (neg_ℤ q, omega (arith, ints))

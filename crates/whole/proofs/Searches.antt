@@ -2,7 +2,7 @@
 use Rattle.std.proofs.Common.{◌≡◌, ℕ, zero, suc, ◌<◌, ◌≤◌, Bool, true, false, cond, ◌⊎◌, Some, None, Option, sym, refl, ap, ◌∙◌, ap₂, inl, inr, arith, MatchOption}
 use Rattle.whole.specs.Counting.{lowest, or_else, AllFail, IsLowest, FindsLowest, Computes}
 
-pub split : (i n : ℕ) → i < suc n → (i < n) ⊎ (i ≡ n)
+split : (i n : ℕ) → i < suc n → (i < n) ⊎ (i ≡ n)
 split i n h = grind arith
 
 pub lowest_none : (n : ℕ) (f : ℕ → Bool) → AllFail n f → lowest n f ≡ None

@@ -2,18 +2,12 @@
 ghost use Rattle.std.specs.Prelude.{◌≡◌};
 ghost use Rattle.whole.specs.Divisors.{divisor as divisor_of, row_divisor as row_divisor_of, Greatest, GreatestOfRow};
 
-use crate::division::divide;
-
 /// The divisor of two numbers, by Euclid's rule.
 pub fn divisor(a: u64, b: u64) -> u64
     ensures value { result ≡ divisor_of a b }
     ensures greatest { Greatest a b result }
 {
-    if b == 0 {
-        return a;
-    }
-    let (_, rest) = divide(a, b);
-    divisor(b, rest)
+    if b == 0 { a } else { divisor(b, a % b) }
 }
 
 /// The divisor of all the numbers of a row, their signs left out.

@@ -16,19 +16,10 @@ pub fn limited(z: i128) -> Option<i64>
         .filter(|x| (-LIMIT..=LIMIT).contains(x))
 }
 
-/// A multiple, exact.
-fn multiple(times: u16, x: i64) -> i128
-    ensures value { result ≡ pos times *ℤ x }
-    ensures low { neg_ℤ (pos (2 ^ 79)) ≤ℤ result }
-    ensures high { result ≤ℤ pos (2 ^ 79) }
-{
-    i128::from(times) * i128::from(x)
-}
-
 /// The sum with a multiple of `x`, if it lies within the limit.
 pub fn add_multiple(sum: i64, times: u16, x: i64) -> Option<i64>
     ensures value { result ≡ held (sum +ℤ pos times *ℤ x) }
     ensures checked { SomeIff result (Limited (sum +ℤ pos times *ℤ x)) (sum +ℤ pos times *ℤ x) }
 {
-    limited(i128::from(sum) + multiple(times, x))
+    limited(i128::from(sum) + i128::from(times) * i128::from(x))
 }

@@ -1,5 +1,6 @@
 //! Examples at the limits.
 use super::*;
+use std::num::{NonZeroU16, NonZeroU64};
 
 #[test]
 fn sums_within_the_limit(rt: HostRuntime) {
@@ -23,20 +24,23 @@ fn divisors(rt: HostRuntime) {
 
 #[test]
 fn rounding(rt: HostRuntime) {
-    assert_eq!(rt; round_up(3, 2), 2);
-    assert_eq!(rt; round_up(4, 2), 2);
-    assert_eq!(rt; round_up(1, 3), 1);
-    assert_eq!(rt; round_up(-1, 3), 0);
-    assert_eq!(rt; round_up(-3, 2), -1);
-    assert_eq!(rt; round_up(-4, 2), -2);
-    assert_eq!(rt; round_up(i64::MIN, 1), i64::MIN);
+    assert_eq!(rt; round_up(3, NonZeroU64::new(2).unwrap()), 2);
+    assert_eq!(rt; round_up(4, NonZeroU64::new(2).unwrap()), 2);
+    assert_eq!(rt; round_up(1, NonZeroU64::new(3).unwrap()), 1);
+    assert_eq!(rt; round_up(-1, NonZeroU64::new(3).unwrap()), 0);
+    assert_eq!(rt; round_up(-3, NonZeroU64::new(2).unwrap()), -1);
+    assert_eq!(rt; round_up(-4, NonZeroU64::new(2).unwrap()), -2);
+    assert_eq!(rt; round_up(i64::MIN, NonZeroU64::new(1).unwrap()), i64::MIN);
 }
 
 #[test]
 fn congruent_numbers(rt: HostRuntime) {
-    assert_eq!(rt; least_congruent(2, 1, 2), 3);
-    assert_eq!(rt; least_congruent(-4, -1, 2), -3);
-    assert_eq!(rt; least_congruent(-4, 1, 2), -3);
-    assert_eq!(rt; least_congruent(0, 0, 5), 0);
-    assert_eq!(rt; least_congruent(i64::MIN, i64::MAX, 3), i64::MIN);
+    assert_eq!(rt; least_congruent(2, 1, NonZeroU16::new(2).unwrap()), 3);
+    assert_eq!(rt; least_congruent(-4, -1, NonZeroU16::new(2).unwrap()), -3);
+    assert_eq!(rt; least_congruent(-4, 1, NonZeroU16::new(2).unwrap()), -3);
+    assert_eq!(rt; least_congruent(0, 0, NonZeroU16::new(5).unwrap()), 0);
+    assert_eq!(rt;
+        least_congruent(i64::MIN, i64::MAX, NonZeroU16::new(3).unwrap()),
+        i64::MIN
+    );
 }

@@ -1,8 +1,8 @@
 -- How a number is read digit by digit.
-use Rattle.std.proofs.Common.{◌≡◌, ℕ, ◌+◌, ◌-◌, ◌*◌, ◌<◌, ◌≤◌, true, false, ◌&&◌, eqb, leb, List, [], ◌∷◌, length, get_or, drop, Some, None, sym, refl, ◌∙◌, inl, inr, arith}
+use Rattle.std.proofs.Common.{◌≡◌, ℕ, ◌+◌, ◌-◌, ◌*◌, ◌<◌, ◌≤◌, true, false, ◌&&◌, leb, List, [], ◌∷◌, length, get_or, drop, Some, None, sym, ◌∙◌, inl, inr, arith}
 use Rattle.std.proofs.lemmas.List.{at_drop_more, at_drop_all}
-use Rattle.std.proofs.lemmas.Bool.{and_right, eq-eqb, le-leb, lt-leb, cases_Bool}
-use Rattle.text.specs.Numbers.{most_number, is_digit, digit, all_digits, value, extended, number, negative, signed}
+use Rattle.std.proofs.lemmas.Bool.{and_right, le-leb, lt-leb, cases_Bool}
+use Rattle.text.specs.Numbers.{most_number, is_digit, digit, all_digits, value, extended, number}
 
 value_grows : (n : ℕ) (bs : List ℕ) → n ≤ value n bs
 unfolding value
@@ -44,18 +44,6 @@ module _ (word : List ℕ) (n i : ℕ) (h : i < length word) (read : extended n 
   pub overflows : (d : ℕ) → Some d ≡ digit (get_or word i 0) → most_number < n * 10 + d → number word ≡ None
   overflows d e g = goes_on d e ∙ too_great _ _ g
 
-pub some_bytes : (bs : List ℕ) → 0 < length bs → extended 0 bs ≡ number bs
-some_bytes [] h = absurd (omega arith)
-some_bytes (b ∷ bs) h = refl
-
 pub all_read : (word : List ℕ) (n i : ℕ) → length word ≤ i → n ≤ most_number → extended n (drop i word) ≡ number word → Some n ≡ number word
 unfolding all_digits value
 all_read word n i h m read = let e : leb n most_number ≡ true = le-leb n most_number m in let s : extended n [] ≡ Some n = rw e in sym s ∙ sym (at_drop_all (extended n) word i h) ∙ read
-
-pub no_bytes : (bs : List ℕ) → length bs ≡ 0 → number bs ≡ None
-no_bytes [] h = refl
-no_bytes (b ∷ bs) h = absurd (omega arith)
-
-pub after_minus : (word : List ℕ) → get_or word 0 0 ≡ 45 → signed word ≡ negative (number (drop 1 word))
-after_minus [] e = absurd (omega arith)
-after_minus (b ∷ bs) e = let t : eqb b 45 ≡ true = eq-eqb b 45 e in rw t

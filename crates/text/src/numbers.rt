@@ -1,19 +1,16 @@
 //! Numbers in decimal digits.
 ghost use Rattle.std.specs.Prelude.{◌≡◌};
-ghost use Rattle.text.specs.Numbers.{digit as digit_of, number as number_of, fitted as fitted_of, signed as signed_of};
+ghost use Rattle.text.specs.Numbers.{digit as digit_of, number as number_of, signed as signed_of};
 
 /// What a decimal digit stands for.
-fn digit(byte: u8) -> Option<u8>
+fn digit(byte: u8) -> Option<u32>
     ensures { result ≡ digit_of byte }
 {
-    if byte.is_ascii_digit() {
-        Some(byte - b'0')
-    } else {
-        None
-    }
+    char::from(byte).to_digit(10)
 }
 
 /// The number that a word of digits spells, if it is at most `u32::MAX`.
+#[tactic(auto, using(crate::proofs::Spelling::stops, crate::proofs::Spelling::goes_on, crate::proofs::Spelling::overflows))]
 pub fn number(word: &[u8]) -> Option<u32>
     ensures { result ≡ number_of word.now }
 {
@@ -23,20 +20,9 @@ pub fn number(word: &[u8]) -> Option<u32>
     let mut value: u32 = 0;
     for byte in word {
         let digit = digit(*byte)?;
-        value = value.checked_mul(10)?.checked_add(u32::from(digit))?;
+        value = value.checked_mul(10)?.checked_add(digit)?;
     }
     Some(value)
-}
-
-/// The same number, if an `i32` holds it.
-fn fitted(value: i64) -> Option<i32>
-    ensures { result ≡ fitted_of value }
-{
-    if i64::from(i32::MIN) <= value && value <= i64::from(i32::MAX) {
-        Some(value as i32)
-    } else {
-        None
-    }
 }
 
 /// The number that a word of digits spells, perhaps after a minus sign, if an `i32` holds it.
@@ -44,7 +30,7 @@ pub fn signed(word: &[u8]) -> Option<i32>
     ensures { result ≡ signed_of word.now }
 {
     match word {
-        [b'-', digits @ ..] => fitted(-i64::from(number(digits)?)),
-        _ => fitted(i64::from(number(word)?)),
+        [b'-', digits @ ..] => i32::try_from(-i64::from(number(digits)?)).ok(),
+        _ => i32::try_from(number(word)?).ok(),
     }
 }

@@ -1,3 +1,4 @@
 pub mod Splitting
 pub mod Spelling
 pub mod Gathering
+pub mod Receiving

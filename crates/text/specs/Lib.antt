@@ -1,4 +1,5 @@
 pub mod Limits
+pub mod Received
 pub mod Lines
 pub mod Words
 pub mod Numbers

@@ -19,7 +19,7 @@ too_great n bs h =
 no_digit : (n b : ℕ) (bs : List ℕ) → None ≡ digit b → extended n (b ∷ bs) ≡ None
 unfolding all_digits value
 no_digit n b bs h = elim (cases_Bool (is_digit b)) [
-  | inl t ↦ let k : digit b ≡ Some (b - 48) = rw t in let z : ◌≡◌ {A = ℕ} 0 1 = cc in absurd (omega arith)
+  | inl t ↦ let k : digit b ≡ Some (b - 48) = rw t in cc
   | inr f ↦ rw f
 ]
 
@@ -27,7 +27,7 @@ one_digit : (n b d : ℕ) (bs : List ℕ) → Some d ≡ digit b → extended n 
 unfolding all_digits value
 one_digit n b d bs h = elim (cases_Bool (is_digit b)) [
   | inl t ↦ let k : digit b ≡ Some (b - 48) = rw t in let e : d ≡ b - 48 = cc in rw (t, e)
-  | inr f ↦ let k : digit b ≡ None = rw f in let z : ◌≡◌ {A = ℕ} 0 1 = cc in absurd (omega arith)
+  | inr f ↦ let k : digit b ≡ None = rw f in cc
 ]
 
 -- the next digit of a word, after those that spell n

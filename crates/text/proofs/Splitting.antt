@@ -48,18 +48,22 @@ no_word line e = elim (cases_lt (start line) (length line)) [
   | inr h ↦ sym (past_blanks line) ∙ at_drop_all words line (start line) h
 ]
 
-end_found : (line : List ℕ) → unwrap_or (position blank line) (length line) ≡ end line
-end_found line = elim (cases_lt (end line) (length line)) [
+end_is : (line : List ℕ) (n : ℕ) (o : Option ℕ) → o ≡ position blank line → n ≡ unwrap_or o (length line) → n ≡ end line
+end_is line n o f g = g ∙ ap (λ p. unwrap_or p (length line)) f ∙ elim (cases_lt (end line) (length line)) [
   | inl h ↦ rw (lt-ltb _ _ h)
-  | inr h ↦ let n = prefix_len-le-length (λ b. not (blank b)) line in rw (le-ltb _ _ h) (omega arith)
+  | inr h ↦ let m = prefix_len-le-length (λ b. not (blank b)) line in rw (le-ltb _ _ h) (omega arith)
 ]
 
-pub first_word : (line cut : List ℕ) (i n : ℕ) (o : Option ℕ) → Some i ≡ position (λ b. not (blank b)) line → cut ≡ drop i line
-    → o ≡ position blank cut → n ≡ unwrap_or o (length cut) → (n ≤ length cut) × (words line ≡ take n cut ∷ words (drop n cut))
-first_word line cut i n o e is_cut f g =
+-- a line cut where its first word starts
+pub word_within : (cut : List ℕ) (n : ℕ) (o : Option ℕ) → o ≡ position blank cut → n ≡ unwrap_or o (length cut) → n ≤ length cut
+word_within cut n o f g = let e = end_is cut n o f g in rw e (prefix_len-le-length (λ b. not (blank b)) cut)
+
+pub first_word : (line cut word rest : List ℕ) (i n : ℕ) (o : Option ℕ) → Some i ≡ position (λ b. not (blank b)) line → cut ≡ drop i line
+    → o ≡ position blank cut → n ≡ unwrap_or o (length cut) → word ≡ take n cut → rest ≡ drop n cut → words line ≡ word ∷ words rest
+first_word line cut word rest i n o e is_cut f g is_word is_rest =
     let found = position-Some (λ b. not (blank b)) line i 0 (sym e) in
-    let at_end : n ≡ end cut = g ∙ ap (λ p. unwrap_or p (length cut)) f ∙ end_found cut in
+    let at_end : n ≡ end cut = end_is cut n o f g in
     let at_start : start line ≡ i = position_or_len_is (λ b. not (blank b)) line i 0 (omega arith) found.2 (λ _. found.1) in
     let front = front_word cut (rw is_cut (begins line i found.0 (not-true _ found.1))) in
     let skipped = sym (past_blanks line) ∙ ap (λ k. words (drop k line)) at_start ∙ ap words (sym is_cut) in
-    rw at_end (prefix_len-le-length (λ b. not (blank b)) cut, skipped ∙ front)
+    rw (is_word, is_rest, at_end) (skipped ∙ front)

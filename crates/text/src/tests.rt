@@ -30,6 +30,14 @@ fn words_between_blanks(rt: HostRuntime) -> Result<(), Fail> {
 }
 
 #[test]
+fn words_in_a_chain(rt: HostRuntime) {
+    let longest = Words::new(b"\t one \t\tthree ")
+        .map(|word| word.len())
+        .max();
+    assert_eq!(rt; longest, Some(5));
+}
+
+#[test]
 fn numbers_at_the_limits(rt: HostRuntime) {
     let cases: [(&[u8], Option<u32>); 6] = [
         (b"4294967295", Some(4294967295)),

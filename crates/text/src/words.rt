@@ -48,6 +48,7 @@ impl<'a> Iterator for Words<'a> {
 
     ghost remaining = { item_count unread };
 
+    #[tactic(auto, using(crate::proofs::Splitting::word_within, crate::proofs::Splitting::no_word))]
     fn next(&mut self) -> Option<&'a [u8]> {
         let line = &self.rest[word_start(self.rest)?..];
         let end = word_end(line).unwrap_or(line.len());

@@ -1,5 +1,5 @@
 //! The next words, read as numbers.
-ghost use Rattle.std.specs.Prelude.{◌≡◌, [], Ok, Err, OnOk, ◌≢◌};
+ghost use Rattle.std.specs.Prelude.{◌≡◌, [], Ok, Err, OnOk, ◌≢◌, MatchResult};
 ghost use Rattle.text.specs.Reading.{as_number, first_number, ended, all_numbers};
 ghost use Rattle.text.specs.Words.{remaining, tail};
 ghost use Rattle.text.specs.declared.problem.Problem.TheVariants.{Memory};
@@ -36,8 +36,9 @@ impl<'a> Words<'a> {
     }
 
     /// The numbers of all further words.
+    #[tactic(auto, using(crate::proofs::Gathering::gather_more, crate::proofs::Gathering::gather_end))]
     pub fn numbers(&mut self, heap: Global) -> Result<Vec<u32>, Problem>
-        ensures value { elim result [ Ok v ↦ all_numbers (remaining self.old) ≡ Ok v.items | Err e ↦ ((e ≢ Memory) → all_numbers (remaining self.old) ≡ Err e) ] }
+        ensures value { MatchResult result (λ v. all_numbers (remaining self.old) ≡ Ok v.items) (λ e. (e ≢ Memory) → all_numbers (remaining self.old) ≡ Err e) }
         ensures after { OnOk result (remaining self.new ≡ []) }
     {
         let mut numbers = Vec::new(heap);

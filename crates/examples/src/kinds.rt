@@ -5,6 +5,7 @@ use evidence::{Kind, Kinds, PlaceEvidence, TrapEvidence, WeightEvidence, base_ki
 use line::Line;
 use rules::{Failure, Fault};
 use std::alloc::Global;
+use std::array;
 use std::process::Abort;
 use std::test::Fail;
 
@@ -39,9 +40,8 @@ fn check_line(
     let Ok(line) = answer else {
         return Err(Fail::new("refused"));
     };
-    for place in 0..96 {
-        let coefficient = if place < first.len() { first[place] } else { 0 };
-        assert_eq!(rt; line.coefficients[place], coefficient);
+    for (place, coefficient) in line.coefficients.iter().enumerate() {
+        assert_eq!(rt; *coefficient, first.get(place).copied().unwrap_or(0));
     }
     assert_eq!(rt; line.bound, bound);
     Ok(())
@@ -67,13 +67,11 @@ fn traps_of_a_figure(rt: HostRuntime) -> Result<(), Fail> {
 
 /// The same weight on 96 places.
 fn everywhere(low: u8, high: u8) -> [u8; 288] {
-    let mut body = [0; 288];
-    for place in 0..96 {
-        body[3 * place] = place as u8;
-        body[3 * place + 1] = low;
-        body[3 * place + 2] = high;
-    }
-    body
+    array::from_fn(|i| match i % 3 {
+        0 => (i / 3) as u8,
+        1 => low,
+        _ => high,
+    })
 }
 
 #[test]

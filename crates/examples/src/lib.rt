@@ -6,11 +6,13 @@ ghost use Rattle.examples.specs.Files.{Files};
 ghost use Rattle.examples.specs.Table.{Table};
 
 /// The certificate files come out as they should.
+#[tactic(auto, unfolding(blocks::specs::Tests::all_sound, blocks::specs::Tests::weighted, blocks::specs::Tests::zeros, blocks::specs::Records::records_from, blocks::specs::Records::records_in))]
 fn files_hold()
     ensures { Files }
 {}
 
 /// Bodies and evidence come out as they should.
+#[tactic(auto, unfolding(scale::specs::Sums::times, scale::specs::Sums::weighed))]
 fn evidence_holds()
     ensures { EvidenceTable }
 {}

@@ -6,10 +6,10 @@ ghost use Rattle.scale.specs.Sums.{Light, most_reach};
 use arcs::{ArcDraft, ArcNet};
 use net::{Marking, Net};
 use rules::Failure;
-use scale::{Pair, Pairs, Residues, Scale, Whole};
+use scale::{Pair, Pairs, Residues, Scale, Weights, Whole};
 use std::alloc::Global;
 use std::test::Fail;
-use weighing::{lowest_falling, lowest_unbalanced, weigh_column, weigh_marking};
+use weighing::WeighedNet;
 
 /// 96 full places; cue 0 takes 255 from the first and gives 255 to the last, cue 1 gives 1 to the first.
 pub fn full_net(heap: Global) -> Result<ArcNet, Failure> {
@@ -31,23 +31,37 @@ fn everywhere(weight: i64) -> [i64; 96]
     [weight; 96]
 }
 
+/// A net with weights on its first places.
+fn weighed<'a, S: Scale>(
+    scale: &'a S,
+    net: &'a ArcNet,
+    list: &'a [S::Weight],
+) -> WeighedNet<'a, S, ArcNet>
+    requires { Light (S.Scale.group scale.now) list.now }
+{
+    WeighedNet {
+        net,
+        weights: Weights::new(scale, list),
+    }
+}
+
 #[test]
 fn whole_weights_at_the_extremes(rt: HostRuntime) -> Result<(), Fail> {
     let net = full_net(rt.alloc())?;
     let start = Marking::start(&net);
     assert_eq!(rt;
-        weigh_marking(&Whole {}, &net, &start, &everywhere(-32768)),
+        weighed(&Whole, &net, &everywhere(-32768)).weigh_marking(&start),
         -206155284480
     );
     assert_eq!(rt;
-        weigh_marking(&Whole {}, &net, &start, &everywhere(32767)),
+        weighed(&Whole, &net, &everywhere(32767)).weigh_marking(&start),
         206148993120
     );
-    assert_eq!(rt; weigh_marking(&Whole {}, &net, &start, &[]), 0);
-    assert_eq!(rt; weigh_column(&Whole {}, &net, 0, &[-32768]), 8355840);
-    assert_eq!(rt; lowest_falling(&Whole {}, &net, &[-32768]), Some(1));
-    assert_eq!(rt; lowest_falling(&Whole {}, &net, &[32767]), Some(0));
-    assert_eq!(rt; lowest_unbalanced(&Whole {}, &net, &[0, 5]), None);
+    assert_eq!(rt; weighed(&Whole, &net, &[]).weigh_marking(&start), 0);
+    assert_eq!(rt; weighed(&Whole, &net, &[-32768]).weigh_column(0), 8355840);
+    assert_eq!(rt; weighed(&Whole, &net, &[-32768]).lowest_falling(), Some(1));
+    assert_eq!(rt; weighed(&Whole, &net, &[32767]).lowest_falling(), Some(0));
+    assert_eq!(rt; weighed(&Whole, &net, &[0, 5]).lowest_unbalanced(), None);
     Ok(())
 }
 
@@ -69,7 +83,7 @@ fn residues_at_the_ends(rt: HostRuntime) -> Result<(), Fail> {
     assert_eq!(rt; most.sum(65534, 65534), 65533);
     assert_eq!(rt; most.opposite(1), 65534);
     assert_eq!(rt; most.multiple(65535, 65534), 0);
-    assert_eq!(rt; weigh_marking(&most, &net, &start, &[]), 0);
+    assert_eq!(rt; weighed(&most, &net, &[]).weigh_marking(&start), 0);
     Ok(())
 }
 
@@ -78,10 +92,10 @@ fn pairs_are_ordered_part_by_part(rt: HostRuntime) -> Result<(), Fail> {
     let net = full_net(rt.alloc())?;
     let light = [Pair { left: 1, right: 0 }];
     assert_eq!(rt;
-        weigh_column(&Pairs {}, &net, 1, &light),
+        weighed(&Pairs, &net, &light).weigh_column(1),
         Pair { left: 1, right: 0 }
     );
-    assert_eq!(rt; lowest_falling(&Pairs {}, &net, &light), Some(0));
-    assert_eq!(rt; lowest_falling(&Pairs {}, &net, &[]), None);
+    assert_eq!(rt; weighed(&Pairs, &net, &light).lowest_falling(), Some(0));
+    assert_eq!(rt; weighed(&Pairs, &net, &[]).lowest_falling(), None);
     Ok(())
 }

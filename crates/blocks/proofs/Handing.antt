@@ -42,6 +42,10 @@ first at (b ∷ bs) later h =
     let fewer = length-drop size (b ∷ bs) in
     same_turns (length bs) (length (drop size (b ∷ bs))) (at + size) (drop size (b ∷ bs)) later (omega arith) (omega arith))
 
+-- in no blocks
+pub none_there : (k i : ℕ) → records_at k i (drop k []) ≡ []
+none_there k i = ap (records_at k i) (drop-nil k)
+
 -- a reader that stands in a block
 module _ (r : Reader) (here : r.number < length r.blocks.now) where
   abbrev later : List Handed
@@ -74,12 +78,8 @@ module _ (r : Reader) (bs : List ℕ) (s : Stands r bs) where
       ∙ ap (λ (l : List ℕ). records_of (used_from r.number + r.at) l (later r s.block)) (sym s.is)
       ∙ first (used_from r.number + r.at) bs (later r s.block) (omega (arith, ap length s.is, length-drop r.at (in_block r), s.some))
 
-  -- a cut record: in no blocks none is to come
-  pub at_cut : None ≡ front bs → (k i : ℕ) → to_come r ≡ cut (used_from r.number + r.at) (length bs) ∷ records_at k i (drop k [])
-  at_cut e k i =
-      begins
-      ∙ ap (λ o. before (used_from r.number + r.at) bs o from_here) (sym e)
-      ∙ ap (λ (l : List (List ℕ)). cut (used_from r.number + r.at) (length bs) ∷ records_at k i l) (sym (drop-nil k))
+  pub at_cut : None ≡ front bs → to_come r ≡ cut (used_from r.number + r.at) (length bs) ∷ []
+  at_cut e = begins ∙ ap (λ o. before (used_from r.number + r.at) bs o from_here) (sym e)
 
   pub moves : (letter : ℕ) (body : List ℕ) → Some (letter, body) ≡ front bs → r.at + (head_size + length body) ≤ most_used
   moves letter body e = omega (arith, inside, (fits bs letter body e).inside)

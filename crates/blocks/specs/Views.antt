@@ -20,11 +20,11 @@ to_come r = records_at r.number r.at (drop r.number r.blocks.now)
 abbrev pub bytes_left : Reader → ℕ
 bytes_left r = block_size * (length r.blocks.now - r.number) - min r.at block_size
 
--- a call hands out the first of those to come, or tells of a cut record
+-- a call hands out the first of those to come, or tells of a cut record, which is the last
 abbrev pub Hands : Reader → Option (Outcome Record) → Reader → Type 0
 Hands s None t = (to_come s ≡ []) × (to_come t ≡ [])
 Hands s (Some (Ok r)) t = to_come s ≡ whole r.offset r.letter r.body.now ∷ to_come t
-Hands s (Some (Err e)) t = (o n : ℕ) × (e ≡ RecordCut o n) × (to_come s ≡ cut o n ∷ to_come t)
+Hands s (Some (Err e)) t = (o n : ℕ) × (e ≡ RecordCut o n) × (to_come s ≡ cut o n ∷ []) × (to_come t ≡ [])
 
 -- the used bytes of the block where it stands
 abbrev pub in_block : Reader → List ℕ

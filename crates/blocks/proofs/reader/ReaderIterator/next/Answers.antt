@@ -1,6 +1,6 @@
 use Rattle.std.proofs.Common.{◌<◌, refl, sym, ◌∙◌, rules, arith}
 use Rattle.blocks.specs.Views.{bytes_left}
-use Rattle.blocks.proofs.Handing.{at_cut, at_whole, inside, moves}
+use Rattle.blocks.proofs.Handing.{at_cut, at_whole, inside, moves, none_there}
 use Rattle.blocks.proofs.reader.ReaderIterator.next.Goals as goal
 
 pub overflow_add-offset-2 : goal.overflow_add-offset-2
@@ -10,7 +10,7 @@ overflow_add-offset-2 c =
 
 pub returns-in_default-clause-steps : goal.returns-in_default-clause-steps
 returns-in_default-clause-steps c =
-    (_, _, refl, sym c.settle.ensures.same ∙ at_cut c.settle.new.self c.in_ok-used.used.now c.in_ok-used.ensures.value c.in_default.ensures _ _)
+    (_, _, refl, sym c.settle.ensures.same ∙ at_cut c.settle.new.self c.in_ok-used.used.now c.in_ok-used.ensures.value c.in_default.ensures, none_there _ _)
 
 pub returns-in_default-clause-goes : goal.returns-in_default-clause-goes
 returns-in_default-clause-goes c =

@@ -1,32 +1,29 @@
--- Bytes one after another: sums and zeros.
-use Rattle.std.proofs.Common.{◌≡◌, ℕ, suc, ◌+◌, ◌*◌, ◌<◌, ◌≤◌, true, false, ◌&&◌, eqb, List, length, get_or, drop, ap, ◌∙◌, arith}
-use Rattle.std.proofs.lemmas.List.{at_drop_more, at_drop_all}
-use Rattle.std.proofs.lemmas.Bool.{eq-eqb, ne_eqb}
-use Rattle.blocks.specs.Tests.{weighted, zeros}
+-- The weight of bytes, as a sum over their places.
+use Rattle.std.proofs.Common.{◌≡◌, ℕ, suc, ◌+◌, ◌*◌, ◌≤◌, List, [], ◌∷◌, length, get_or, refl, sym, ap, ◌∙◌, arith, mul-le-mul}
+use Rattle.std.specs.List.{enumerate_from, sum_by}
+use Rattle.std.proofs.lemmas.List.Sums.{sum_by-cons}
+use Rattle.blocks.specs.Tests.{weighted}
 
-module _ (bs : List ℕ) (i : ℕ) (h : i < length bs) where
-  pub zeros_on : get_or bs i 0 ≡ 0 → zeros (drop i bs) ≡ zeros (drop (i + 1) bs)
-  unfolding zeros
-  zeros_on e =
-      let step : zeros (drop i bs) ≡ (eqb (get_or bs i 0) 0 && zeros (drop (i + 1) bs)) = at_drop_more zeros bs i 0 h in
-      step ∙ ap (λ t. t && zeros (drop (i + 1) bs)) (eq-eqb _ _ e)
+-- a byte times its place, counted from 1
+abbrev pub worth : ℕ × ℕ → ℕ
+worth p = (p.0 + 1) * p.1
 
-  pub zeros_stop : (get_or bs i 0 ≡ 0 → ⊥) → zeros (drop i bs) ≡ false
-  unfolding zeros
-  zeros_stop e =
-      let step : zeros (drop i bs) ≡ (eqb (get_or bs i 0) 0 && zeros (drop (i + 1) bs)) = at_drop_more zeros bs i 0 h in
-      step ∙ ap (λ t. t && zeros (drop (i + 1) bs)) (ne_eqb _ _ e)
-
-  pub weighted_on : weighted i (drop i bs) ≡ (i + 1) * get_or bs i 0 + weighted (i + 1) (drop (i + 1) bs)
-  unfolding weighted
-  weighted_on =
-      let next : suc i ≡ i + 1 = omega arith in
-      at_drop_more (weighted i) bs i 0 h ∙ ap (λ k. k * get_or bs i 0 + weighted k (drop (i + 1) bs)) next
-
-pub zeros_end : (bs : List ℕ) (i : ℕ) → length bs ≤ i → zeros (drop i bs) ≡ true
-unfolding zeros
-zeros_end bs i h = at_drop_all zeros bs i h
-
-pub weighted_end : (bs : List ℕ) (i : ℕ) → length bs ≤ i → weighted i (drop i bs) ≡ 0
+weighted_on : (i b : ℕ) (bs : List ℕ) → weighted i (b ∷ bs) ≡ (i + 1) * b + weighted (i + 1) bs
 unfolding weighted
-weighted_end bs i h = at_drop_all (weighted i) bs i h
+weighted_on i b bs = let next : suc i ≡ i + 1 = omega arith in ap (λ (j : ℕ). j * b + weighted j bs) next
+
+pub weighted_sum : (i : ℕ) (bs : List ℕ) → sum_by worth (enumerate_from i bs) ≡ weighted i bs
+unfolding weighted
+weighted_sum i [] = refl
+weighted_sum i (b ∷ bs) =
+    sum_by-cons worth (i, b) (enumerate_from (i + 1) bs) ∙ ap (λ (n : ℕ). (i + 1) * b + n) (weighted_sum (i + 1) bs) ∙ sym (weighted_on i b bs)
+
+pub weighted_most : (i m : ℕ) (bs : List ℕ) → i + length bs ≤ m → ((k : ℕ) → get_or bs k 0 ≤ 255) → weighted i bs ≤ length bs * (m * 255)
+unfolding weighted
+weighted_most i m [] h small = omega arith
+weighted_most i m (b ∷ bs) h small =
+    let byte : b ≤ 255 = small 0 in
+    let place : i + 1 ≤ m = omega arith in
+    let one = mul-le-mul place byte in
+    let others = weighted_most (i + 1) m bs (omega arith) (λ k. small (suc k)) in
+    omega (arith, weighted_on i b bs)

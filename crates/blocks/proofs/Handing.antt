@@ -1,10 +1,13 @@
--- How the records of a file come one after another.
-use Rattle.std.proofs.Common.{◌≡◌, ℕ, zero, suc, ◌+◌, ◌-◌, ◌<◌, ◌≤◌, List, [], ◌∷◌, length, drop, Some, None, Option, sym, refl, ap, ◌∙◌, arith}
-use Rattle.std.specs.List.{between}
-use Rattle.std.proofs.lemmas.List.{length-drop, length-take}
-use Rattle.blocks.specs.Layout.{blocks, used, used_from, used_to}
-use Rattle.blocks.specs.Records.{Handed, whole, cut, before, front, head_size, records_in, records_of, records_from}
-use Rattle.blocks.proofs.Parts.{drop_between}
+-- How the records of blocks come one after another.
+use Rattle.std.proofs.Common.{◌≡◌, ℕ, zero, suc, ◌+◌, ◌-◌, min, ◌<◌, ◌≤◌, List, [], ◌∷◌, length, drop, get_or, Some, None, Option, sym, refl, ap, ◌∙◌, arith}
+use Rattle.std.proofs.Math.Seq.{drop-cons, drop-nil}
+use Rattle.std.proofs.lemmas.List.{drop-drop, length-drop, length-take}
+use Rattle.rules.specs.Limits.{most_used}
+use Rattle.blocks.specs.Layout.{payload_at, used_from, used_in}
+use Rattle.blocks.specs.Records.{Handed, whole, cut, before, front, head_size, records_in, records_of}
+use Rattle.blocks.proofs.Fronts.{fits}
+use Rattle.blocks.specs.Views.{Stands, in_block, records_at, to_come}
+use Rattle.blocks.specs.declared.reader.Reader.{Reader}
 
 same_before : (at : ℕ) (bs : List ℕ) (o : Option (ℕ × List ℕ)) (f g : ℕ → List Handed) → ((size : ℕ) → head_size ≤ size → f size ≡ g size) → before at bs o f ≡ before at bs o g
 same_before at bs None f g h = refl
@@ -39,53 +42,57 @@ first at (b ∷ bs) later h =
     let fewer = length-drop size (b ∷ bs) in
     same_turns (length bs) (length (drop size (b ∷ bs))) (at + size) (drop size (b ∷ bs)) later (omega arith) (omega arith))
 
--- the blocks from k on
-abbrev pub from : ℕ → List ℕ → List Handed
-from k f = records_from (blocks f - k) k f
+-- in no blocks
+pub none_there : (k i : ℕ) → records_at k i (drop k []) ≡ []
+none_there k i = ap (records_at k i) (drop-nil k)
 
-turn : (n m k : ℕ) (f : List ℕ) → n ≡ m + 1 → records_from n k f ≡ records_of (used_from k) (used k f) (records_from m (k + 1) f)
-unfolding records_from
-turn zero m k f e = absurd (omega arith)
-turn (suc n) m k f e =
-    let less : n ≡ m = omega arith in
-    let next : suc k ≡ k + 1 = omega arith in
-    ap (λ (j : ℕ). records_of (used_from k) (used k f) (records_from n j f)) next ∙ ap (λ (j : ℕ). records_of (used_from k) (used k f) (records_from j (k + 1) f)) less
+-- a reader that stands in a block
+module _ (r : Reader) (here : r.number < length r.blocks.now) where
+  abbrev later : List Handed
+  later = records_at (r.number + 1) 0 (drop (r.number + 1) r.blocks.now)
 
-pub next_block : (f : List ℕ) (k : ℕ) → k < blocks f → from k f ≡ records_of (used_from k) (used k f) (from (k + 1) f)
-next_block f k h = turn (blocks f - k) (blocks f - (k + 1)) k f (omega arith)
+  of_block : to_come r ≡ records_of (used_from r.number + r.at) (drop r.at (in_block r)) later
+  of_block =
+      let next : suc r.number ≡ r.number + 1 = omega arith in
+      ap (records_at r.number r.at) (drop-cons r.blocks.now r.number [] here ∙ ap (λ (m : ℕ). get_or r.blocks.now r.number [] ∷ drop m r.blocks.now) next)
 
-pub no_block : (f : List ℕ) (k : ℕ) → blocks f ≤ k → from k f ≡ []
-unfolding records_from
-no_block f k h =
-    let e : blocks f - k ≡ 0 = omega arith in
-    ap (λ (n : ℕ). records_from n k f) e
+  -- nothing is left of it
+  pub goes_on : length (in_block r) ≤ r.at → to_come r ≡ to_come (record r { number = r.number + 1; at = 0 })
+  goes_on h = of_block ∙ all_read (used_from r.number + r.at) (drop r.at (in_block r)) later (omega (arith, length-drop r.at (in_block r)))
 
--- a reader at a place of a block, with those from block k on behind it
-abbrev pub stands : List ℕ → ℕ → ℕ → ℕ → List Handed
-stands f at end k = records_of at (between at end f) (from k f)
+-- a reader that stands before these bytes
+module _ (r : Reader) (bs : List ℕ) (s : Stands r bs) where
+  pub inside : r.at + length bs ≤ most_used
+  inside =
+      let b : List ℕ = drop payload_at (get_or r.blocks.now r.number []) in
+      let n : ℕ = min (used_in (get_or r.blocks.now r.number [])) most_used in
+      omega (arith, ap length s.is, length-drop r.at (in_block r), length-take (payload_at + n - payload_at) b, s.some)
 
-pub goes_on : (f : List ℕ) (at end k : ℕ) → length (between at end f) ≡ 0 → k < blocks f → stands f at end k ≡ stands f (used_from k) (used_to k f) (k + 1)
-goes_on f at end k h l = all_read at (between at end f) (from k f) h ∙ next_block f k l
+  from_here : ℕ → List Handed
+  from_here size = records_of (used_from r.number + r.at + size) (drop size bs) (later r s.block)
 
-pub ends : (f : List ℕ) (at end k : ℕ) → length (between at end f) ≡ 0 → blocks f ≤ k → stands f at end k ≡ []
-ends f at end k h l = all_read at (between at end f) (from k f) h ∙ no_block f k l
+  begins : to_come r ≡ before (used_from r.number + r.at) bs (front bs) from_here
+  unfolding from_here
+  begins =
+      of_block r s.block
+      ∙ ap (λ (l : List ℕ). records_of (used_from r.number + r.at) l (later r s.block)) (sym s.is)
+      ∙ first (used_from r.number + r.at) bs (later r s.block) (omega (arith, ap length s.is, length-drop r.at (in_block r), s.some))
 
--- bytes are left at the place
-module _ (f : List ℕ) (at end k : ℕ) (bs : List ℕ) (is : bs ≡ between at end f) (some : 0 < length bs) where
-  pub inside : at + length bs ≤ length f
-  inside = let e = ap length is in omega (arith, length-take (end - at) (drop at f), length-drop at f)
+  pub at_cut : None ≡ front bs → to_come r ≡ cut (used_from r.number + r.at) (length bs) ∷ []
+  at_cut e = begins ∙ ap (λ o. before (used_from r.number + r.at) bs o from_here) (sym e)
 
-  begins : stands f at end k ≡ before at bs (front bs) (λ size. records_of (at + size) (drop size bs) (from k f))
-  begins = ap (λ (l : List ℕ). records_of at l (from k f)) (sym is) ∙ first at bs (from k f) some
+  pub moves : (letter : ℕ) (body : List ℕ) → Some (letter, body) ≡ front bs → r.at + (head_size + length body) ≤ most_used
+  moves letter body e = omega (arith, inside, (fits bs letter body e).inside)
 
-  pub at_cut : None ≡ front bs → stands f at end k ≡ cut at (length bs) ∷ []
-  at_cut e = begins ∙ ap (λ o. before at bs o (λ size. records_of (at + size) (drop size bs) (from k f))) (sym e)
-
-  pub at_whole : (letter : ℕ) (body : List ℕ) → Some (letter, body) ≡ front bs → stands f at end k ≡ whole at letter body ∷ stands f (at + head_size + length body) end k
+  pub at_whole : (letter : ℕ) (body : List ℕ) → Some (letter, body) ≡ front bs
+      → to_come r ≡ whole (used_from r.number + r.at) letter body ∷ to_come (record r { at = r.at + (head_size + length body) })
+  unfolding from_here
   at_whole letter body e =
-      let s : ℕ = head_size + length body in
-      let after : at + s ≡ at + head_size + length body = omega arith in
+      let n : ℕ = head_size + length body in
+      let after : used_from r.number + r.at + n ≡ used_from r.number + (r.at + n) = omega arith in
+      let moved : Reader = record r { at = r.at + n } in
       begins
-      ∙ ap (λ o. before at bs o (λ size. records_of (at + size) (drop size bs) (from k f))) (sym e)
-      ∙ ap (λ (l : List ℕ). whole at letter body ∷ records_of (at + s) l (from k f)) (ap (drop s) is ∙ drop_between f at end s)
-      ∙ ap (λ (n : ℕ). whole at letter body ∷ stands f n end k) after
+      ∙ ap (λ o. before (used_from r.number + r.at) bs o from_here) (sym e)
+      ∙ ap (λ (l : List ℕ). whole (used_from r.number + r.at) letter body ∷ records_of (used_from r.number + r.at + n) l (later r s.block)) (ap (drop n) s.is ∙ drop-drop n r.at (in_block r))
+      ∙ ap (λ (m : ℕ). whole (used_from r.number + r.at) letter body ∷ records_of m (drop (r.at + n) (in_block r)) (later r s.block)) after
+      ∙ ap (λ hs. whole (used_from r.number + r.at) letter body ∷ hs) (sym (of_block moved s.block))

@@ -1,8 +1,7 @@
 pub mod Bytes
+pub mod Chunks
 pub mod Cover
-pub mod Fewness
 pub mod Fronts
 pub mod Handing
 pub mod Parts
 pub mod Passing
-pub mod Reading

@@ -1,6 +1,7 @@
 -- What a block of a certificate file carries. Numbers are little-endian.
-use Rattle.std.specs.Prelude.{ℕ, ◌+◌, ◌*◌, ◌/◌, List, length, take, slice_index}
+use Rattle.std.specs.Prelude.{ℕ, ◌+◌, ◌*◌, ◌/◌, List, length, min, take, slice_index}
 use Rattle.std.specs.List.{between}
+use Rattle.std.specs.Simd.{first_chunks}
 use Rattle.rules.specs.Limits.{block_size, most_used}
 
 abbrev pub word : ℕ → ℕ → ℕ
@@ -19,6 +20,10 @@ blocks file = length file / block_size
 
 abbrev pub block : ℕ → List ℕ → List ℕ
 block k file = between (begins k) (begins (k + 1)) file
+
+-- all blocks of a file
+abbrev pub blocks_of : List ℕ → List (List ℕ)
+blocks_of file = first_chunks block_size (blocks file) file
 
 -- where the payload begins in a block, and the sum behind it
 abbrev pub payload_at : ℕ
@@ -39,6 +44,10 @@ sum_in b = word_at b sum_at + 65536 * word_at b (sum_at + 2)
 -- the payload that no record takes
 abbrev pub unused : List ℕ → List ℕ
 unused b = between (payload_at + used_in b) sum_at b
+
+-- the bytes that its records take, as far as the payload goes
+abbrev pub used_bytes : List ℕ → List ℕ
+used_bytes b = between payload_at (payload_at + min (used_in b) most_used) b
 
 -- the bytes that are summed
 abbrev pub summed : List ℕ → List ℕ

@@ -1,5 +1,6 @@
 -- The tests of a whole file, before any record is read.
-use Rattle.std.specs.Prelude.{ℕ, zero, suc, ◌+◌, ◌*◌, ◌%◌, Bool, true, not, ◌&&◌, List, [], ◌∷◌, length, Ok, ◌==◌, nat_le}
+use Rattle.std.specs.Prelude.{ℕ, zero, suc, ◌+◌, ◌*◌, ◌%◌, Bool, not, ◌&&◌, List, [], ◌∷◌, length, Ok, ◌==◌, nat_le}
+use Rattle.std.specs.List.{list_all}
 use Rattle.rules.specs.Limits.{block_size, most_blocks, most_used}
 use Rattle.rules.specs.Outcome.{Outcome, ◌>>=◌, need}
 use Rattle.rules.specs.declared.refusal.Refusal.TheVariants.{FileLength, BlockNumber, BlockUsed, BlockSum}
@@ -10,9 +11,8 @@ unfoldable pub weighted : ℕ → List ℕ → ℕ
 weighted i [] = 0
 weighted i (b ∷ bs) = suc i * b + weighted (suc i) bs
 
-unfoldable pub zeros : List ℕ → Bool
-zeros [] = true
-zeros (b ∷ bs) = b == 0 && zeros bs
+abbrev pub zeros : List ℕ → Bool
+zeros bs = list_all (λ b. b == 0) bs
 
 -- one block or more, and no part of one
 abbrev pub measured : ℕ → Outcome Unit

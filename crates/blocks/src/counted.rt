@@ -6,12 +6,13 @@ use crate::reader::Reader;
 use rules::Refusal;
 
 /// The number of records of a file that passes its tests and has no cut record.
+#[tactic(auto, unfolding(crate::specs::Counting::count_from))]
 pub fn count_records(file: &[u8]) -> Result<usize, Refusal>
     ensures { result ≡ counted file.now }
 {
     let mut count = 0;
-    let mut reader = Reader::open(file)?;
-    while let Some(_) = reader.next()? {
+    for record in Reader::open(file)? {
+        record?;
         count += 1;
     }
     Ok(count)

@@ -1,7 +1,6 @@
 //! What a block carries. Numbers are little-endian.
-ghost use Rattle.std.specs.Prelude.{◌≡◌, ◌+◌, ◌<◌, ◌≤◌, length};
-ghost use Rattle.rules.specs.Limits.{block_size};
-ghost use Rattle.blocks.specs.Layout.{begins, block, sum_in, used_in, word as word_of, word_at};
+ghost use Rattle.std.specs.Prelude.{◌≡◌, length};
+ghost use Rattle.blocks.specs.Layout.{blocks, blocks_of as blocks_of_lem, number_in, sum_in, used_bytes, used_in};
 
 use rules::limits::{BLOCK_SIZE, MOST_USED};
 
@@ -13,45 +12,52 @@ pub const SUM_AT: usize = PAYLOAD_AT + MOST_USED;
 /// Of a record: its letter, and the length of its body.
 pub const HEAD_SIZE: usize = 3;
 
-/// Block `k` of a file.
-pub fn block_at(file: &[u8], k: usize) -> &[u8]
-    requires { begins (k + 1) ≤ length file.now }
-    ensures value { result.now ≡ block k file.now }
-    ensures size { length result.now ≡ block_size }
-{
-    &file[BLOCK_SIZE * k..BLOCK_SIZE * (k + 1)]
+/// A block of a file.
+#[derive(Clone, Copy)]
+pub struct Block<'a> {
+    pub bytes: &'a [u8; BLOCK_SIZE],
 }
 
-/// The two bytes' number.
-pub fn word(low: u8, high: u8) -> usize
-    ensures value { result ≡ word_of low high }
-    ensures small { result < 65536 }
+/// The blocks of a file.
+pub fn blocks_of(file: &[u8]) -> &[[u8; BLOCK_SIZE]]
+    ensures value { result.now ≡ blocks_of_lem file.now }
+    ensures count { length result.now ≡ blocks file.now }
 {
-    usize::from(u16::from_le_bytes([low, high]))
+    let (blocks, _) = file.as_chunks();
+    blocks
 }
 
-/// The number in the two bytes at `i`.
-pub fn word_at(bytes: &[u8], i: usize) -> usize
-    requires { i + 1 < length bytes.now }
-    ensures value { result ≡ word_at bytes.now i }
-    ensures small { result < 65536 }
-{
-    word(bytes[i], bytes[i + 1])
-}
+impl<'a> Block<'a> {
+    /// The number that the block carries.
+    pub fn number(&self) -> usize
+        ensures { result ≡ number_in self.now.bytes.now }
+    {
+        let [low, high, ..] = *self.bytes;
+        usize::from(u16::from_le_bytes([low, high]))
+    }
 
-/// How many bytes of a block its records take.
-pub fn used_in(block: &[u8]) -> usize
-    requires { length block.now ≡ block_size }
-    ensures value { result ≡ used_in block.now }
-    ensures small { result < 65536 }
-{
-    word_at(block, 2)
-}
+    /// How many bytes its records take.
+    pub fn used(&self) -> usize
+        ensures { result ≡ used_in self.now.bytes.now }
+    {
+        let [_, _, low, high, ..] = *self.bytes;
+        usize::from(u16::from_le_bytes([low, high]))
+    }
 
-/// The sum that a block carries.
-pub fn sum_in(block: &[u8]) -> usize
-    requires { length block.now ≡ block_size }
-    ensures { result ≡ sum_in block.now }
-{
-    word_at(block, SUM_AT) + 65536 * word_at(block, SUM_AT + 2)
+    /// The sum that the block carries.
+    pub fn sum(&self) -> usize
+        ensures { result ≡ sum_in self.now.bytes.now }
+    {
+        let [.., a, b, c, d] = *self.bytes;
+        u32::from_le_bytes([a, b, c, d]) as usize
+    }
+
+    /// The bytes that its records take, as far as the payload goes.
+    pub fn used_bytes(&self) -> &'a [u8]
+        ensures { result.now ≡ used_bytes self.now.bytes.now }
+    {
+        let bytes = self.bytes;
+        let used = self.used().min(MOST_USED);
+        &bytes[PAYLOAD_AT..PAYLOAD_AT + used]
+    }
 }

@@ -1,14 +1,14 @@
 //! A reader that hands out one record after another.
-ghost use Rattle.std.specs.Prelude.{◌≡◌, [], length, IfOk, OnOk};
-ghost use Rattle.std.specs.List.{between};
+ghost use Rattle.std.specs.Prelude.{◌≡◌, ◌<◌, ◌≤◌, [], MatchOption, IfOk, OnOk, length, drop};
 ghost use Rattle.std.specs.Option.{option_map};
 ghost use Rattle.rules.specs.Outcome.{answered};
 ghost use Rattle.blocks.specs.Covering.{Covered};
+ghost use Rattle.blocks.specs.Layout.{used_bytes};
 ghost use Rattle.blocks.specs.Records.{front as front_of, records};
 ghost use Rattle.blocks.specs.Tests.{checked};
-ghost use Rattle.blocks.specs.Views.{due, tail, to_come, viewed};
+ghost use Rattle.blocks.specs.Views.{bytes_left, to_come, Stands};
 
-use crate::layout::{HEAD_SIZE, PAYLOAD_AT, block_at, used_in, word};
+use crate::layout::{Block, HEAD_SIZE, PAYLOAD_AT, blocks_of};
 use crate::tested::test_blocks;
 use rules::Refusal;
 use rules::limits::BLOCK_SIZE;
@@ -21,37 +21,21 @@ pub struct Record<'a> {
     pub body: &'a [u8],
 }
 
-/// Stands over a file: at `at` among the used bytes of a block, which end at `end`, with block `next` to follow.
+/// Stands over the blocks of a file: before byte `at` of those that block `number` uses.
 #[derive(Drop)]
 pub struct Reader<'a> {
-    file: &'a [u8],
+    blocks: &'a [[u8; BLOCK_SIZE]],
+    number: usize,
     at: usize,
-    end: usize,
-    next: usize,
-}
-
-/// The bytes from one place to another, as far as the file has them.
-fn part(file: &[u8], from: usize, to: usize) -> &[u8]
-    ensures { result.now ≡ between from to file.now }
-{
-    let to = to.min(file.len());
-    let from = from.min(to);
-    &file[from..to]
 }
 
 /// The letter and the body at the front, if they are there whole.
 fn front(bytes: &[u8]) -> Option<(u8, &[u8])>
     ensures { option_map (λ x. (x.0, x.1.now)) result ≡ front_of bytes.now }
 {
-    let [letter, low, high, rest @ ..] = bytes else {
-        return None;
-    };
-    let size = word(*low, *high);
-    if size <= rest.len() {
-        Some((*letter, &rest[..size]))
-    } else {
-        None
-    }
+    let ([letter, low, high], rest) = bytes.split_first_chunk::<HEAD_SIZE>()?;
+    let size = usize::from(u16::from_le_bytes([*low, *high]));
+    Some((*letter, rest.get(..size)?))
 }
 
 impl<'a> Reader<'a> {
@@ -63,49 +47,53 @@ impl<'a> Reader<'a> {
     {
         test_blocks(file)?;
         Ok(Reader {
-            file,
+            blocks: blocks_of(file),
+            number: 0,
             at: 0,
-            end: 0,
-            next: 0,
         })
     }
 
     /// Goes on to the first block with used bytes still to be read, and gives them; none at the end.
-    fn settle(&mut self) -> &'a [u8]
-        ensures value { result.now ≡ between self.new.at self.new.end self.new.file.now }
+    fn settle(&mut self) -> Option<&'a [u8]>
         ensures same { to_come self.new ≡ to_come self.old }
-        ensures last { length result.now ≡ 0 → to_come self.new ≡ [] }
+        ensures fewer { bytes_left self.new ≤ bytes_left self.old }
+        ensures value { MatchOption result (to_come self.new ≡ []) (λ x. Stands self.new x.now) }
     {
-        let mut used = part(self.file, self.at, self.end);
-        while used.is_empty() && self.next < self.file.len() / BLOCK_SIZE {
-            self.at = BLOCK_SIZE * self.next + PAYLOAD_AT;
-            self.end = self.at + used_in(block_at(self.file, self.next));
-            self.next += 1;
-            used = part(self.file, self.at, self.end);
+        while let Some(bytes) = self.blocks.get(self.number) {
+            let used = Block { bytes }.used_bytes();
+            if self.at < used.len() {
+                return Some(&used[self.at..]);
+            }
+            self.number += 1;
+            self.at = 0;
         }
-        used
+        None
     }
+}
 
-    /// The next record, past empty blocks. After a record that is cut none comes.
-    pub fn next(&mut self) -> Result<Option<Record<'a>>, Refusal>
-        ensures value { viewed result ≡ due (to_come self.old) }
-        ensures after { to_come self.new ≡ tail (to_come self.old) }
-    {
-        let used = self.settle();
-        if used.is_empty() {
-            return Ok(None);
-        }
-        let offset = self.at;
+/// Gives the records past empty blocks. After one that is cut none comes.
+impl<'a> Iterator for Reader<'a> {
+    ghost use Rattle.std.specs.Iterator.{at_most};
+    ghost use Rattle.blocks.specs.Views.{Hands, bytes_left};
+
+    type Item = Result<Record<'a>, Refusal>;
+
+    ghost next_gives = { Hands };
+
+    ghost remaining = { λ r. at_most (bytes_left r) };
+
+    fn next(&mut self) -> Option<Result<Record<'a>, Refusal>> {
+        let used = self.settle()?;
+        let offset = BLOCK_SIZE * self.number + PAYLOAD_AT + self.at;
         let Some((letter, body)) = front(used) else {
-            self.end = offset;
-            self.next = self.file.len() / BLOCK_SIZE;
-            return Err(Refusal::RecordCut {
+            self.blocks = &[];
+            return Some(Err(Refusal::RecordCut {
                 offset,
                 left: used.len(),
-            });
+            }));
         };
-        self.at = offset + HEAD_SIZE + body.len();
-        Ok(Some(Record {
+        self.at += HEAD_SIZE + body.len();
+        Some(Ok(Record {
             letter,
             offset,
             body,

@@ -11,32 +11,29 @@ use rules::Refusal;
 mod tests;
 
 /// The letter of the last record.
+#[tactic(auto, unfolding(crate::specs::Following::follow))]
 pub fn last_letter(file: &[u8]) -> Result<Option<u8>, Refusal>
     ensures { result ≡ last_letter file.now }
 {
     let mut last = None;
-    let mut reader = Reader::open(file)?;
-    while let Some(record) = reader.next()? {
-        last = Some(record.letter);
+    for record in Reader::open(file)? {
+        last = Some(record?.letter);
     }
     Ok(last)
 }
 
 /// The length of the longest body. A cut record counts with the used bytes that are left.
+#[tactic(auto, unfolding(crate::specs::Following::longest))]
 pub fn longest_body(file: &[u8]) -> Result<usize, Refusal>
     ensures { result ≡ longest_body file.now }
 {
     let mut longest: usize = 0;
-    let mut reader = Reader::open(file)?;
-    loop {
-        match reader.next() {
-            Ok(found) => {
-                let Some(record) = found else {
-                    return Ok(longest);
-                };
-                longest = longest.max(record.body.len());
-            }
-            Err(refusal) => return Ok(longest.max(refusal.tell().detail)),
-        }
+    for record in Reader::open(file)? {
+        let length = record.map_or_else(
+            |refusal| refusal.tell().detail,
+            |record| record.body.len(),
+        );
+        longest = longest.max(length);
     }
+    Ok(longest)
 }

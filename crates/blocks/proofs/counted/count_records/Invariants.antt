@@ -1,10 +1,7 @@
-use Rattle.std.proofs.Common.{◌≡◌, ◌+◌, ◌*◌, ◌≤◌, length}
-use Rattle.blocks.specs.Views.{to_come}
+use Rattle.std.proofs.Common.{◌≡◌, ◌+◌, ◌^◌, ◌<◌}
+use Rattle.blocks.specs.Views.{bytes_left, to_come}
 use Rattle.blocks.specs.Counting.{count_from, count_records}
 use Rattle.blocks.proofs.counted.count_records.Given as goal
 
-abbrev pub invariant-loop-count : goal.invariant-loop-count
-invariant-loop-count l = (count_from l.count (to_come l.reader) ≡ count_records l.file) × (l.count + length (to_come l.reader) ≤ 128 * 65536)
-
-abbrev pub decreases-loop-count : goal.decreases-loop-count
-decreases-loop-count l = length (to_come l.reader)
+abbrev pub invariant-loop-record : goal.invariant-loop-record
+invariant-loop-record l = (count_from l.count (to_come l.record-iterator) ≡ count_records l.file) × (l.count + bytes_left l.record-iterator < 2 ^ 64)

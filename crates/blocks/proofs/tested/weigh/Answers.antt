@@ -1,16 +1,24 @@
-use Rattle.std.proofs.Common.{◌+◌, ◌*◌, ◌≤◌, ap, mul-le-mul, arith}
+use Rattle.std.proofs.Common.{◌∙◌, ◌≤◌, ◌*◌, length, rules, arith}
+use Rattle.std.specs.List.{enumerate_from}
+use Rattle.std.proofs.lemmas.Iterator.{YieldsList-from_map, YieldsList-from_slice}
+use Rattle.std.proofs.lemmas.Iterator.Consumers.{YieldsList-from_enumerate, sum_by_from_yields_List, fits_by_from_yields_list}
 use Rattle.blocks.specs.Layout.{sum_at}
-use Rattle.blocks.proofs.Bytes.{weighted_end, weighted_on}
+use Rattle.blocks.proofs.Bytes.{weighted_most, weighted_sum, worth}
 use Rattle.blocks.proofs.tested.weigh.Goals as goal
 
-pub loop-i-preserved : goal.loop-i-preserved
-loop-i-preserved c =
-    let step = weighted_on c.args.bytes.now c.loop-i.i c.loop-i-test.true in
-    let same = ap (λ b. (c.loop-i.i + 1) * b) c.from.ensures in
-    let place : c.loop-i.i + 1 ≤ sum_at = omega arith in
-    let byte : c.from.result ≤ 255 = omega (arith, c.type_inv.bytes c.loop-i.i) in
-    let most = mul-le-mul place byte in
-    (omega arith, omega arith)
+pub sum-requires-clause-fits : goal.sum-requires-clause-fits
+sum-requires-clause-fits c =
+    let bs = c.args.bytes.now in
+    let all = weighted_sum 0 bs in
+    let most = weighted_most 0 sum_at bs (omega arith) (λ k. omega (arith, c.type_inv.bytes k)) in
+    let few : length bs * (sum_at * 255) ≤ sum_at * (sum_at * 255) = omega arith in
+    fits_by_from_yields_list worth (enumerate_from 0 bs) c.map.result _
+    (YieldsList-from_map _ worth (YieldsList-from_enumerate (YieldsList-from_slice bs cc) cc) c.map.ensures.closure (λ x r q k. search rules))
+    (omega (arith, all, most))
 
 pub returns : goal.returns
-returns c = omega (arith, weighted_end c.args.bytes.now c.loop-i.i c.loop-i-test.false)
+returns c =
+    let bs = c.args.bytes.now in
+    sum_by_from_yields_List worth (enumerate_from 0 bs) c.map.result _ c.sum.ensures.ran
+    (YieldsList-from_map _ worth (YieldsList-from_enumerate (YieldsList-from_slice bs cc) cc) c.map.ensures.closure (λ x r q k. search rules))
+    ∙ weighted_sum 0 bs

@@ -13,7 +13,7 @@ use text::Problem;
 pub enum Grant {
     Done,
     Sealed { places: usize, cues: usize },
-    Number { number: usize },
+    Number(usize),
     Marked { places: usize, marking: Marking },
     Help,
     Quit,
@@ -31,8 +31,8 @@ impl Grant {
 /// Why a command was not granted: the library refused it, or no call was made.
 #[derive(Clone, Copy)]
 pub enum Denial {
-    Refused { refusal: Refusal },
-    Unread { problem: Problem },
+    Refused(Refusal),
+    Unread(Problem),
     NoDraft,
     NoNet,
     Memory,
@@ -42,7 +42,7 @@ impl From<Refusal> for Denial {
     ghost from_gives = { λ e r. r ≡ Refused' e };
 
     fn from(refusal: Refusal) -> Denial {
-        Denial::Refused { refusal }
+        Denial::Refused(refusal)
     }
 }
 
@@ -50,7 +50,7 @@ impl From<Problem> for Denial {
     ghost from_gives = { λ e r. r ≡ Unread' e };
 
     fn from(problem: Problem) -> Denial {
-        Denial::Unread { problem }
+        Denial::Unread(problem)
     }
 }
 
@@ -59,7 +59,7 @@ impl From<Failure> for Denial {
 
     fn from(failure: Failure) -> Denial {
         match failure {
-            Failure::Refused(refusal) => Denial::Refused { refusal },
+            Failure::Refused(refusal) => Denial::Refused(refusal),
             Failure::Memory => Denial::Memory,
         }
     }
@@ -68,11 +68,11 @@ impl From<Failure> for Denial {
 impl fmt::Display for Denial {
     fn fmt<W: fmt::Write>(&self, f: &mut fmt::Formatter<W>) -> fmt::Result {
         match *self {
-            Denial::Refused { refusal } => {
+            Denial::Refused(refusal) => {
                 let told = refusal.tell();
                 write!(f, "{told}: {refusal}")
             }
-            Denial::Unread { problem } => write!(f, "error: {problem}"),
+            Denial::Unread(problem) => write!(f, "error: {problem}"),
             Denial::NoDraft => write!(f, "error: no net is being drafted; net arcs begins one"),
             Denial::NoNet => write!(f, "error: no net is sealed; draft one and seal it"),
             Denial::Memory => write!(f, "error: out of memory"),
@@ -85,7 +85,7 @@ impl fmt::Display for Grant {
         match *self {
             Grant::Done => write!(f, "ok"),
             Grant::Sealed { places, cues } => write!(f, "ok places {places} cues {cues}"),
-            Grant::Number { number } => write!(f, "ok {number}"),
+            Grant::Number(number) => write!(f, "ok {number}"),
             Grant::Marked { places, marking } => {
                 write!(f, "ok marking")?;
                 for place in 0..places {

@@ -5,11 +5,12 @@ ghost use Rattle.desk.specs.Desk.{Answered, Comes, Obeyed, perform_line, standin
 ghost use Rattle.desk.specs.Orders.{arc, ask_net, net_arcs, order, rehearse as rehearse_order, seal_net};
 
 use super::super::answer::{Denial, Grant};
-use super::super::command::{Command, Question};
-use super::super::read::{is_idle, read_command};
+use super::super::command::Command;
+use super::super::read::read_command;
 use super::Desk;
 use arcs::ArcDraft;
 use net::{Net, rehearse};
+use orders::{Question, is_idle};
 use std::alloc::Global;
 
 impl Desk {
@@ -46,7 +47,7 @@ impl Desk {
             Question::Places => net.places(),
             Question::Cues => net.cues(),
         };
-        Ok(Grant::Number { number })
+        Ok(Grant::Number(number))
     }
 
     fn rehearse(&self, cues: &[u32]) -> Result<Grant, Denial>
@@ -80,7 +81,7 @@ impl Desk {
         };
         if let Err(refusal) = draft.can_seal() {
             self.draft = Some(draft);
-            return Err(Denial::Refused { refusal });
+            return Err(Denial::Refused(refusal));
         }
         let net = draft.seal();
         let grant = Grant::Sealed {
@@ -104,7 +105,7 @@ impl Desk {
                 given,
             } => self.add(*cue, *place, *taken, *given),
             Command::SealNet => self.seal(),
-            Command::AskNet { question } => self.ask(*question),
+            Command::AskNet(question) => self.ask(*question),
             Command::Rehearse { cues } => self.rehearse(cues),
             Command::Help => Ok(Grant::Help),
             Command::Quit => Ok(Grant::Quit),

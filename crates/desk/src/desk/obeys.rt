@@ -37,9 +37,7 @@ impl Desk {
     fn ask(&self, question: Question) -> Result<Grant, Denial>
         ensures { Obeyed (standing self.now) (ask_net question) result (standing self.now) }
     {
-        let Some(net) = &self.net else {
-            return Err(Denial::NoNet);
-        };
+        let net = self.net.as_ref().ok_or(Denial::NoNet)?;
         let number = match question {
             Question::Taken { place, cue } => usize::from(net.taken(place, cue)),
             Question::Given { place, cue } => usize::from(net.given(place, cue)),
@@ -53,9 +51,7 @@ impl Desk {
     fn rehearse(&self, cues: &[u32]) -> Result<Grant, Denial>
         ensures { Obeyed (standing self.now) (rehearse_order cues.now) result (standing self.now) }
     {
-        let Some(net) = &self.net else {
-            return Err(Denial::NoNet);
-        };
+        let net = self.net.as_ref().ok_or(Denial::NoNet)?;
         let marking = rehearse(net, cues)?;
         Ok(Grant::Marked {
             places: net.places(),
@@ -66,9 +62,7 @@ impl Desk {
     fn add(&mut self, cue: usize, place: usize, taken: u32, given: u32) -> Result<Grant, Denial>
         ensures { Obeyed (standing self.old) (arc cue place taken given) result (standing self.new) }
     {
-        let Some(draft) = &mut self.draft else {
-            return Err(Denial::NoDraft);
-        };
+        let draft = self.draft.as_mut().ok_or(Denial::NoDraft)?;
         draft.add(cue, place, taken, given)?;
         Ok(Grant::Done)
     }
@@ -76,9 +70,7 @@ impl Desk {
     fn seal(&mut self) -> Result<Grant, Denial>
         ensures { Obeyed (standing self.old) seal_net result (standing self.new) }
     {
-        let Some(draft) = self.draft.take() else {
-            return Err(Denial::NoDraft);
-        };
+        let draft = self.draft.take().ok_or(Denial::NoDraft)?;
         if let Err(refusal) = draft.can_seal() {
             self.draft = Some(draft);
             return Err(Denial::Refused(refusal));
@@ -93,20 +85,20 @@ impl Desk {
     }
 
     /// Makes the call that a command asks for.
-    fn obey(&mut self, command: &Command) -> Result<Grant, Denial>
-        ensures { Obeyed (standing self.old) (order command.now) result (standing self.new) }
+    fn obey(&mut self, command: Command) -> Result<Grant, Denial>
+        ensures { Obeyed (standing self.old) (order command) result (standing self.new) }
     {
         match command {
-            Command::NetArcs { places, starts } => self.begin(*places, starts),
+            Command::NetArcs { places, starts } => self.begin(places, &starts),
             Command::Arc {
                 cue,
                 place,
                 taken,
                 given,
-            } => self.add(*cue, *place, *taken, *given),
+            } => self.add(cue, place, taken, given),
             Command::SealNet => self.seal(),
-            Command::AskNet(question) => self.ask(*question),
-            Command::Rehearse { cues } => self.rehearse(cues),
+            Command::AskNet(question) => self.ask(question),
+            Command::Rehearse { cues } => self.rehearse(&cues),
             Command::Help => Ok(Grant::Help),
             Command::Quit => Ok(Grant::Quit),
         }
@@ -117,7 +109,7 @@ impl Desk {
         ensures { Comes (perform_line (standing self.old) (words line.now)) (standing self.old) result (standing self.new) }
     {
         let command = read_command(self.heap, line)?;
-        self.obey(&command)
+        self.obey(command)
     }
 
     /// Answers a line; one that orders nothing has no answer.

@@ -32,7 +32,7 @@ impl Grant {
 /// Why a command was not granted: the library refused it, or no call was made.
 #[derive(Clone, Copy, Debug, Error)]
 pub enum Denial {
-    #[error("{told}: {0}", told = .0.tell())]
+    #[error("{}: {}", .0.tell(), .0)]
     Refused(Refusal),
     #[error("error: {0}")]
     Unread(Problem),

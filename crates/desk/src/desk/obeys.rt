@@ -70,12 +70,8 @@ impl Desk {
     fn seal(&mut self) -> Result<Grant, Denial>
         ensures { Obeyed (standing self.old) seal_net result (standing self.new) }
     {
-        let draft = self.draft.take().ok_or(Denial::NoDraft)?;
-        if let Err(refusal) = draft.can_seal() {
-            self.draft = Some(draft);
-            return Err(Denial::Refused(refusal));
-        }
-        let net = draft.seal();
+        self.draft.as_ref().ok_or(Denial::NoDraft)?.can_seal()?;
+        let net = self.draft.take().unwrap().seal();
         let grant = Grant::Sealed {
             places: net.places(),
             cues: net.cues(),

@@ -1,5 +1,5 @@
 -- The language of the desk: what each row of words orders.
-use Rattle.std.specs.Prelude.{◌≡◌, ℕ, cond, List, [], ◌∷◌, Ok, Err, vec_items, codes, Result}
+use Rattle.std.specs.Prelude.{ℕ, cond, List, [], ◌∷◌, Ok, Err, vec_items, codes, Result}
 use Rattle.rules.specs.Outcome.{◌>>=◌}
 use Rattle.text.specs.Names.{same}
 use Rattle.text.specs.Reading.{Read, all_numbers}

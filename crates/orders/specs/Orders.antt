@@ -1,5 +1,5 @@
 -- The language of the desk: what each row of words orders.
-use Rattle.std.specs.Prelude.{◌≡◌, ℕ, Bool, cond, List, [], ◌∷◌, None, Ok, Err, vec_items, codes, Option, Result}
+use Rattle.std.specs.Prelude.{ℕ, Bool, cond, List, [], ◌∷◌, None, Ok, Err, vec_items, codes, Option, Result}
 use Rattle.rules.specs.Outcome.{◌>>=◌}
 use Rattle.text.specs.Names.{same}
 use Rattle.text.specs.Reading.{Read, first_number, all_numbers}
@@ -7,8 +7,9 @@ use Rattle.text.specs.Words.{head, tail}
 use Rattle.text.specs.declared.problem.Problem.{Problem}
 use Rattle.text.specs.declared.problem.Problem.TheVariants.{Missing, Unknown}
 use Rattle.row_words.specs.RowWords.{row_body}
-use Rattle.orders.specs.Parts.{Word, ReadBy, alone, named, read_arcs, read_pair, read_pairs, read_single}
-use Rattle.orders.specs.Questions.{read_question}
+use Rattle.orders.specs.Parts as parts
+use Rattle.orders.specs.Parts.{Word, ReadBy, alone, named, read_pair, read_pairs, read_single}
+use Rattle.orders.specs.Questions as questions
 use Rattle.orders.specs.declared.command.Command.{Command}
 use Rattle.orders.specs.declared.command.Command.TheVariants.{NetArcs, Arc, NetThreads, Thread, Move, SealNet, Conditions, Row, SealConditions, AskNet, Rehearse, Records, Help, Quit}
 use Rattle.orders.specs.declared.question.Question.{Question}
@@ -56,9 +57,9 @@ order Quit = quit
 abbrev pub ReadAs : Read Order → Result Command Problem → Type 0
 ReadAs o r = ReadBy order o r
 
-abbrev pub read_net_arcs : List Word → Read Order
-read_net_arcs ws = do
-  k ← read_arcs ws
+abbrev pub read_arcs : List Word → Read Order
+read_arcs ws = do
+  k ← parts.read_arcs ws
   Ok (net_arcs k.0 k.1)
 
 abbrev pub make : Word → Read Make
@@ -67,7 +68,7 @@ make w =
     (cond (same w (codes "threads")) (Ok Threads) (Err Unknown))
 
 abbrev pub read_make : Make → List Word → Read Order
-read_make Arcs ws = read_net_arcs ws
+read_make Arcs ws = read_arcs ws
 read_make Threads ws = alone net_threads ws
 
 abbrev pub read_net : List Word → Read Order
@@ -117,13 +118,13 @@ read_row ws = do
   body ← row_body (tail ws)
   Ok (row c body)
 
-abbrev pub read_asked : List Word → Read Order
-read_asked ws = do
-  q ← read_question ws
+abbrev pub read_question : List Word → Read Order
+read_question ws = do
+  q ← questions.read_question ws
   Ok (ask_net q)
 
 abbrev pub read_ask : List Word → Read Order
-read_ask ws = named (codes "net") read_asked ws
+read_ask ws = named (codes "net") read_question ws
 
 abbrev pub read_rehearse : List Word → Read Order
 read_rehearse ws = do

@@ -1,5 +1,5 @@
 -- Questions to a net: what each row of words asks.
-use Rattle.std.specs.Prelude.{ℕ, cond, List, [], ◌∷◌, Ok, Err, codes}
+use Rattle.std.specs.Prelude.{cond, List, [], ◌∷◌, Ok, Err, codes}
 use Rattle.rules.specs.Outcome.{◌>>=◌}
 use Rattle.text.specs.Names.{same}
 use Rattle.text.specs.Reading.{Read}

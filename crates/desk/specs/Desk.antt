@@ -8,13 +8,14 @@ use Rattle.net.specs.Firing.{Marking, rehearse as rehearsed}
 use Rattle.net.specs.Views.{tokens}
 use Rattle.arcs.specs.Arcs.{Drafted, add_arc, arc as arc_of, arc_net, begin_arcs, seal_arcs}
 use Rattle.arcs.specs.Views.{drafted, sealed}
-use Rattle.desk.specs.Orders.{idle, no_memory, Order, Word, read, net_arcs, arc, seal_net, ask_net, rehearse, help, quit}
+use Rattle.orders.specs.Parts.{Word, idle, no_memory}
+use Rattle.orders.specs.declared.question.Question.{Question}
+use Rattle.orders.specs.declared.question.Question.TheVariants.{Taken, Given, Start, Places, Cues}
+use Rattle.desk.specs.Orders.{Order, read, net_arcs, arc, seal_net, ask_net, rehearse, help, quit}
 use Rattle.desk.specs.declared.answer.Denial.{Denial}
 use Rattle.desk.specs.declared.answer.Denial.TheVariants.{Refused, Unread, NoDraft, NoNet, Memory}
 use Rattle.desk.specs.declared.answer.Grant.{Grant}
 use Rattle.desk.specs.declared.answer.Grant.TheVariants.{Done, Sealed, Number, Marked, Help, Quit}
-use Rattle.desk.specs.declared.command.Question.{Question}
-use Rattle.desk.specs.declared.command.Question.TheVariants.{Taken, Given, Start, Places, Cues}
 use Rattle.desk.specs.declared.desk.Desk.{Desk}
 
 -- a net being drafted, and a sealed one

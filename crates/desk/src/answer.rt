@@ -7,13 +7,14 @@ use net::Marking;
 use rules::{Failure, Refusal};
 use std::fmt;
 use text::Problem;
+use thiserror::Error;
 
 /// What a granted command answers.
 #[derive(Clone, Copy)]
 pub enum Grant {
     Done,
     Sealed { places: usize, cues: usize },
-    Number { number: usize },
+    Number(usize),
     Marked { places: usize, marking: Marking },
     Help,
     Quit,
@@ -29,12 +30,17 @@ impl Grant {
 }
 
 /// Why a command was not granted: the library refused it, or no call was made.
-#[derive(Clone, Copy)]
+#[derive(Clone, Copy, Debug, Error)]
 pub enum Denial {
-    Refused { refusal: Refusal },
-    Unread { problem: Problem },
+    #[error("{}: {}", .0.tell(), .0)]
+    Refused(Refusal),
+    #[error("error: {0}")]
+    Unread(Problem),
+    #[error("error: no net is being drafted; net arcs begins one")]
     NoDraft,
+    #[error("error: no net is sealed; draft one and seal it")]
     NoNet,
+    #[error("error: out of memory")]
     Memory,
 }
 
@@ -42,7 +48,7 @@ impl From<Refusal> for Denial {
     ghost from_gives = { λ e r. r ≡ Refused' e };
 
     fn from(refusal: Refusal) -> Denial {
-        Denial::Refused { refusal }
+        Denial::Refused(refusal)
     }
 }
 
@@ -50,7 +56,7 @@ impl From<Problem> for Denial {
     ghost from_gives = { λ e r. r ≡ Unread' e };
 
     fn from(problem: Problem) -> Denial {
-        Denial::Unread { problem }
+        Denial::Unread(problem)
     }
 }
 
@@ -59,23 +65,8 @@ impl From<Failure> for Denial {
 
     fn from(failure: Failure) -> Denial {
         match failure {
-            Failure::Refused(refusal) => Denial::Refused { refusal },
+            Failure::Refused(refusal) => Denial::Refused(refusal),
             Failure::Memory => Denial::Memory,
-        }
-    }
-}
-
-impl fmt::Display for Denial {
-    fn fmt<W: fmt::Write>(&self, f: &mut fmt::Formatter<W>) -> fmt::Result {
-        match *self {
-            Denial::Refused { refusal } => {
-                let told = refusal.tell();
-                write!(f, "{told}: {refusal}")
-            }
-            Denial::Unread { problem } => write!(f, "error: {problem}"),
-            Denial::NoDraft => write!(f, "error: no net is being drafted; net arcs begins one"),
-            Denial::NoNet => write!(f, "error: no net is sealed; draft one and seal it"),
-            Denial::Memory => write!(f, "error: out of memory"),
         }
     }
 }
@@ -83,19 +74,17 @@ impl fmt::Display for Denial {
 impl fmt::Display for Grant {
     fn fmt<W: fmt::Write>(&self, f: &mut fmt::Formatter<W>) -> fmt::Result {
         match *self {
-            Grant::Done => write!(f, "ok"),
+            Grant::Done | Grant::Quit => f.write_str("ok"),
             Grant::Sealed { places, cues } => write!(f, "ok places {places} cues {cues}"),
-            Grant::Number { number } => write!(f, "ok {number}"),
+            Grant::Number(number) => write!(f, "ok {number}"),
             Grant::Marked { places, marking } => {
-                write!(f, "ok marking")?;
+                f.write_str("ok marking")?;
                 for place in 0..places {
-                    let tokens = marking.tokens(place);
-                    write!(f, " {tokens}")?;
+                    write!(f, " {}", marking.tokens(place))?;
                 }
                 Ok(())
             }
-            Grant::Help => write!(f, "{HELP}"),
-            Grant::Quit => write!(f, "ok"),
+            Grant::Help => f.write_str(HELP),
         }
     }
 }

@@ -1,14 +1,5 @@
 //! The commands of the desk.
-
-/// One of the five questions to a net.
-#[derive(Clone, Copy)]
-pub enum Question {
-    Taken { place: usize, cue: usize },
-    Given { place: usize, cue: usize },
-    Start { place: usize },
-    Places,
-    Cues,
-}
+use orders::Question;
 
 /// A command, with its numbers as they were written.
 #[derive(Drop)]
@@ -24,9 +15,7 @@ pub enum Command {
         given: u32,
     },
     SealNet,
-    AskNet {
-        question: Question,
-    },
+    AskNet(Question),
     Rehearse {
         cues: Vec<u32>,
     },

@@ -7,6 +7,7 @@ mod desk;
 mod read;
 
 pub use answer::{Denial, Grant};
-pub use command::{Command, Question};
+pub use command::Command;
 pub use desk::Desk;
-pub use read::{is_idle, read_command};
+pub use orders::{Question, is_idle};
+pub use read::read_command;

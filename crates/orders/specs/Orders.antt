@@ -1,27 +1,24 @@
 -- The language of the desk: what each row of words orders.
-use Rattle.std.specs.Prelude.{◌≡◌, ℕ, Bool, true, false, cond, List, [], ◌∷◌, None, Ok, Err, vec_items, codes, Option, Result, ◌==◌}
+use Rattle.std.specs.Prelude.{ℕ, Bool, cond, List, [], ◌∷◌, None, Ok, Err, vec_items, codes, Option, Result}
 use Rattle.rules.specs.Outcome.{◌>>=◌}
 use Rattle.text.specs.Names.{same}
-use Rattle.text.specs.Reading.{Read, first_number, ended, all_numbers}
+use Rattle.text.specs.Reading.{Read, first_number, all_numbers}
 use Rattle.text.specs.Words.{head, tail}
 use Rattle.text.specs.declared.problem.Problem.{Problem}
-use Rattle.text.specs.declared.problem.Problem.TheVariants.{Missing, NotANumber, NotAnEntry, NotHex, Surplus, Unknown, TooLong, NotText, Memory}
+use Rattle.text.specs.declared.problem.Problem.TheVariants.{Missing, Unknown}
 use Rattle.row_words.specs.RowWords.{row_body}
+use Rattle.orders.specs.Parts as parts
+use Rattle.orders.specs.Parts.{Word, ReadBy, alone, named, read_pair, read_pairs, read_single}
+use Rattle.orders.specs.Questions as questions
 use Rattle.orders.specs.declared.command.Command.{Command}
 use Rattle.orders.specs.declared.command.Command.TheVariants.{NetArcs, Arc, NetThreads, Thread, Move, SealNet, Conditions, Row, SealConditions, AskNet, Rehearse, Records, Help, Quit}
-use Rattle.orders.specs.declared.command.Question.{Question}
-use Rattle.orders.specs.declared.command.Question.TheVariants.{Taken, Given, Start, Places, Cues}
+use Rattle.orders.specs.declared.question.Question.{Question}
 use Rattle.orders.specs.declared.read.Make.{Make}
-use Rattle.orders.specs.declared.read.Make.TheVariants.{OfArcs, OfThreads, NoMake}
+use Rattle.orders.specs.declared.read.Make.TheVariants.{Arcs, Threads}
 use Rattle.orders.specs.declared.read.Object.{Object}
-use Rattle.orders.specs.declared.read.Object.TheVariants.{TheNet, TheConditions, NoObject}
-use Rattle.orders.specs.declared.read.Topic.{Topic}
-use Rattle.orders.specs.declared.read.Topic.TheVariants.{OfTaken, OfGiven, OfStart, OfPlaces, OfCues, NoTopic}
+use Rattle.orders.specs.declared.read.Object.TheVariants.{Net as TheNet, Conditions as TheConditions}
 use Rattle.orders.specs.declared.read.Verb.{Verb}
-use Rattle.orders.specs.declared.read.Verb.TheVariants.{ToNet, ToArc, ToThread, ToMove, ToSeal, ToConditions, ToRow, ToAsk, ToRehearse, ToRecords, ToHelp, ToQuit, NoVerb}
-
-abbrev pub Word : Type 0
-Word = List ℕ
+use Rattle.orders.specs.declared.read.Verb.TheVariants.{Net as ToNet, Arc as ToArc, Thread as ToThread, Move as ToMove, Seal as ToSeal, Conditions as ToConditions, Row as ToRow, Ask as ToAsk, Rehearse as ToRehearse, Records as ToRecords, Help as ToHelp, Quit as ToQuit}
 
 pub data Order : Type 0 where
   net_arcs : (places : ℕ) (starts : List ℕ) → Order
@@ -56,68 +53,29 @@ order Records = records
 order Help = help
 order Quit = quit
 
-abbrev pub no_memory : Problem → Bool
-no_memory Missing = false
-no_memory NotANumber = false
-no_memory NotAnEntry = false
-no_memory NotHex = false
-no_memory Surplus = false
-no_memory Unknown = false
-no_memory TooLong = false
-no_memory NotText = false
-no_memory Memory = true
-
 -- a command is read as the language says, but for want of memory
 abbrev pub ReadAs : Read Order → Result Command Problem → Type 0
-ReadAs o (Ok c) = o ≡ Ok (order c)
-ReadAs o (Err e) = no_memory e ≡ false → o ≡ Err e
-
--- the first word is this name, and the others are read on
-abbrev pub named : List ℕ → (List Word → Read Order) → List Word → Read Order
-named name f [] = Err Missing
-named name f (w ∷ ws) = let on : Read Order = f ws in cond (same w name) on (Err Unknown)
-
--- no further words
-abbrev pub alone : Order → List Word → Read Order
-alone o ws = do
-  _ ← ended ws
-  Ok o
+ReadAs o r = ReadBy order o r
 
 abbrev pub read_arcs : List Word → Read Order
 read_arcs ws = do
-  places ← first_number ws
-  starts ← all_numbers (tail ws)
-  Ok (net_arcs places starts)
+  k ← parts.read_arcs ws
+  Ok (net_arcs k.0 k.1)
 
-abbrev pub make : Word → Make
+abbrev pub make : Word → Read Make
 make w =
-    cond (same w (codes "arcs")) OfArcs
-    (cond (same w (codes "threads")) OfThreads NoMake)
+    cond (same w (codes "arcs")) (Ok Arcs)
+    (cond (same w (codes "threads")) (Ok Threads) (Err Unknown))
 
 abbrev pub read_make : Make → List Word → Read Order
-read_make NoMake ws = Err Unknown
-read_make OfArcs ws = read_arcs ws
-read_make OfThreads ws = alone net_threads ws
+read_make Arcs ws = read_arcs ws
+read_make Threads ws = alone net_threads ws
 
 abbrev pub read_net : List Word → Read Order
 read_net [] = Err Missing
-read_net (w ∷ ws) = read_make (make w) ws
-
--- two numbers and no more
-abbrev pub read_pair : List Word → Read (ℕ × ℕ)
-read_pair ws = do
-  a ← first_number ws
-  b ← first_number (tail ws)
-  _ ← ended (tail (tail ws))
-  Ok (a, b)
-
--- two numbers and two more
-abbrev pub read_pairs : List Word → Read ((ℕ × ℕ) × (ℕ × ℕ))
-read_pairs ws = do
-  a ← first_number ws
-  b ← first_number (tail ws)
-  k ← read_pair (tail (tail ws))
-  Ok ((a, b), k)
+read_net (w ∷ ws) = do
+  m ← make w
+  read_make m ws
 
 abbrev pub read_arc : List Word → Read Order
 read_arc ws = do
@@ -134,24 +92,24 @@ read_move ws = do
   k ← read_pairs ws
   Ok (move k.0.0 k.0.1 k.1.0 k.1.1)
 
-abbrev pub object : Word → Object
+abbrev pub object : Word → Read Object
 object w =
-    cond (same w (codes "net")) TheNet
-    (cond (same w (codes "conditions")) TheConditions NoObject)
+    cond (same w (codes "net")) (Ok TheNet)
+    (cond (same w (codes "conditions")) (Ok TheConditions) (Err Unknown))
 
 abbrev pub read_object : Object → List Word → Read Order
-read_object NoObject ws = Err Unknown
 read_object TheNet ws = alone seal_net ws
 read_object TheConditions ws = alone seal_conditions ws
 
 abbrev pub read_seal : List Word → Read Order
 read_seal [] = Err Missing
-read_seal (w ∷ ws) = read_object (object w) ws
+read_seal (w ∷ ws) = do
+  x ← object w
+  read_object x ws
 
 abbrev pub read_conditions : List Word → Read Order
 read_conditions ws = do
-  places ← first_number ws
-  _ ← ended (tail ws)
+  places ← read_single ws
   Ok (conditions places)
 
 abbrev pub read_row : List Word → Read Order
@@ -160,41 +118,10 @@ read_row ws = do
   body ← row_body (tail ws)
   Ok (row c body)
 
-abbrev pub read_taken : List Word → Read Order
-read_taken ws = do
-  k ← read_pair ws
-  Ok (ask_net (Taken k.0 k.1))
-
-abbrev pub read_given : List Word → Read Order
-read_given ws = do
-  k ← read_pair ws
-  Ok (ask_net (Given k.0 k.1))
-
-abbrev pub read_start : List Word → Read Order
-read_start ws = do
-  p ← first_number ws
-  _ ← ended (tail ws)
-  Ok (ask_net (Start p))
-
-abbrev pub topic : Word → Topic
-topic w =
-    cond (same w (codes "taken")) OfTaken
-    (cond (same w (codes "given")) OfGiven
-    (cond (same w (codes "start")) OfStart
-    (cond (same w (codes "places")) OfPlaces
-    (cond (same w (codes "cues")) OfCues NoTopic))))
-
-abbrev pub read_topic : Topic → List Word → Read Order
-read_topic NoTopic ws = Err Unknown
-read_topic OfTaken ws = read_taken ws
-read_topic OfGiven ws = read_given ws
-read_topic OfStart ws = read_start ws
-read_topic OfPlaces ws = alone (ask_net Places) ws
-read_topic OfCues ws = alone (ask_net Cues) ws
-
 abbrev pub read_question : List Word → Read Order
-read_question [] = Err Missing
-read_question (w ∷ ws) = read_topic (topic w) ws
+read_question ws = do
+  q ← questions.read_question ws
+  Ok (ask_net q)
 
 abbrev pub read_ask : List Word → Read Order
 read_ask ws = named (codes "net") read_question ws
@@ -209,23 +136,22 @@ abbrev pub read_records : List Word → Read Order
 read_records [] = Err Missing
 read_records (w ∷ ws) = alone records ws
 
-abbrev pub verb : Word → Verb
+abbrev pub verb : Word → Read Verb
 verb w =
-    cond (same w (codes "net")) ToNet
-    (cond (same w (codes "arc")) ToArc
-    (cond (same w (codes "thread")) ToThread
-    (cond (same w (codes "move")) ToMove
-    (cond (same w (codes "seal")) ToSeal
-    (cond (same w (codes "conditions")) ToConditions
-    (cond (same w (codes "row")) ToRow
-    (cond (same w (codes "ask")) ToAsk
-    (cond (same w (codes "rehearse")) ToRehearse
-    (cond (same w (codes "records")) ToRecords
-    (cond (same w (codes "help")) ToHelp
-    (cond (same w (codes "quit")) ToQuit NoVerb)))))))))))
+    cond (same w (codes "net")) (Ok ToNet)
+    (cond (same w (codes "arc")) (Ok ToArc)
+    (cond (same w (codes "thread")) (Ok ToThread)
+    (cond (same w (codes "move")) (Ok ToMove)
+    (cond (same w (codes "seal")) (Ok ToSeal)
+    (cond (same w (codes "conditions")) (Ok ToConditions)
+    (cond (same w (codes "row")) (Ok ToRow)
+    (cond (same w (codes "ask")) (Ok ToAsk)
+    (cond (same w (codes "rehearse")) (Ok ToRehearse)
+    (cond (same w (codes "records")) (Ok ToRecords)
+    (cond (same w (codes "help")) (Ok ToHelp)
+    (cond (same w (codes "quit")) (Ok ToQuit) (Err Unknown))))))))))))
 
 abbrev pub read_verb : Verb → List Word → Read Order
-read_verb NoVerb ws = Err Unknown
 read_verb ToNet ws = read_net ws
 read_verb ToArc ws = read_arc ws
 read_verb ToThread ws = read_thread ws
@@ -241,7 +167,9 @@ read_verb ToQuit ws = alone quit ws
 
 abbrev pub read : List Word → Read Order
 read [] = Err Missing
-read (w ∷ ws) = read_verb (verb w) ws
+read (w ∷ ws) = do
+  v ← verb w
+  read_verb v ws
 
 -- a command that reads a file names it next
 abbrev pub names_file : Word → Bool
@@ -250,13 +178,3 @@ names_file w = same w (codes "records")
 abbrev pub file_named : List Word → Option Word
 file_named [] = None
 file_named (w ∷ ws) = cond (names_file w) (head ws) None
-
--- a first word that begins with #
-abbrev pub comment : Word → Bool
-comment [] = true
-comment (b ∷ bs) = b == 35
-
--- nothing is ordered by no words at all, or by a comment
-abbrev pub idle : List Word → Bool
-idle [] = true
-idle (w ∷ ws) = comment w

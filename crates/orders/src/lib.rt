@@ -2,7 +2,13 @@
 #![tactic(auto)]
 
 mod command;
+mod parts;
+mod question;
 mod read;
+#[cfg(test)]
+mod tests;
 
-pub use command::{Command, Question};
-pub use read::{file_named, is_idle, read_command};
+pub use command::Command;
+pub use parts::{is_idle, read_alone, read_arc, read_arcs, read_name};
+pub use question::{Question, read_question};
+pub use read::{file_named, read_command};

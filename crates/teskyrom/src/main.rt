@@ -2,83 +2,58 @@
 #![tactic(auto)]
 
 use anyhow::anyhow;
-use desk::{Denial, Desk, Grant};
+use desk::{Denial, Desk};
 use std::env;
 use std::fs::File;
-use std::io::Read;
+use std::io::{BufReader, Read};
+use std::ops::ControlFlow;
 use text::Line;
 
-/// Answers a whole line; true where the operator quits.
-fn answer(rt: &HostRuntime, desk: &mut Desk, line: &Line) -> anyhow::Result<bool> {
-    let bytes = match line.text() {
-        Ok(bytes) => bytes,
-        Err(problem) => {
-            rt.println(Denial::Unread { problem })?;
-            return Ok(false);
-        }
+/// Answers a whole line, and breaks off where the operator quits.
+fn answer(rt: &impl Print, desk: &mut Desk, line: &Line) -> anyhow::Result<ControlFlow<()>> {
+    let answer = match line.text() {
+        Ok(bytes) => desk.answer(bytes),
+        Err(problem) => Some(Err(Denial::Unread(problem))),
     };
-    match desk.answer(bytes) {
-        None => Ok(false),
+    match answer {
         Some(Ok(grant)) => {
-            rt.println(grant)?;
-            Ok(grant.ends())
+            println!(rt; "{grant}")?;
+            if grant.ends() {
+                return Ok(ControlFlow::Break(()));
+            }
         }
-        Some(Err(denial)) => {
-            rt.println(denial)?;
-            Ok(false)
-        }
+        Some(Err(denial)) => println!(rt; "{denial}")?,
+        None => {}
     }
-}
-
-/// Takes in bytes and answers each line that they end; true where the operator quits.
-fn take_in(
-    rt: &HostRuntime,
-    desk: &mut Desk,
-    line: &mut Line,
-    bytes: &[u8],
-) -> anyhow::Result<bool> {
-    for byte in bytes {
-        if *byte != b'\n' {
-            line.push(*byte);
-            continue;
-        }
-        if answer(rt, desk, line)? {
-            return Ok(true);
-        }
-        line.clear();
-    }
-    Ok(false)
+    Ok(ControlFlow::Continue(()))
 }
 
 /// Reads lines and answers each as soon as it is whole.
-fn serve<R: Read + Drop>(rt: &HostRuntime, mut input: R) -> anyhow::Result<()> {
+fn serve<R: Print + AllocGlobal>(rt: &R, input: impl Read + Drop) -> anyhow::Result<()> {
     let mut desk = Desk::new(rt.alloc());
     let mut line = Line::new(rt.alloc())?;
-    let mut bytes = [0u8; 4096];
-    for _ in 0..u64::MAX {
-        let count = input.read(&mut bytes)?;
-        if count == 0 {
-            break;
-        }
-        if take_in(rt, &mut desk, &mut line, &bytes[0..count])? {
-            return Ok(());
+    for byte in BufReader::new(rt.alloc(), input)?.bytes() {
+        match byte? {
+            b'\n' => {
+                if answer(rt, &mut desk, &line)?.is_break() {
+                    return Ok(());
+                }
+                line.clear();
+            }
+            byte => line.push(byte),
         }
     }
     answer(rt, &mut desk, &line)?;
     Ok(())
 }
 
-fn run(rt: &HostRuntime) -> anyhow::Result<()> {
-    let mut words = env::args(rt)?.skip(1);
+fn main(rt: HostRuntime) -> anyhow::Result<()> {
+    let mut words = env::args(&rt)?.skip(1);
     match (words.next(), words.next()) {
-        (None, _) => serve(rt, rt.stdin()),
-        (Some(path), None) => serve(rt, File::open(rt, path)?),
+        (None, _) => serve(&rt, rt.stdin()),
+        (Some(path), None) => serve(&rt, File::open(&rt, path)?),
         (Some(_), Some(_)) => Err(anyhow!(
             "one file of commands at the most, or none to read standard input"
         )),
     }
-}
-
-fn main(rt: HostRuntime) -> anyhow::Result<()> {
-    run(&rt)
 }

@@ -96,3 +96,6 @@ module _ (r : Reader) (bs : List ℕ) (s : Stands r bs) where
       ∙ ap (λ (l : List ℕ). whole (used_from r.number + r.at) letter body ∷ records_of (used_from r.number + r.at + n) l (later r s.block)) (ap (drop n) s.is ∙ drop-drop n r.at (in_block r))
       ∙ ap (λ (m : ℕ). whole (used_from r.number + r.at) letter body ∷ records_of m (drop (r.at + n) (in_block r)) (later r s.block)) after
       ∙ ap (λ hs. whole (used_from r.number + r.at) letter body ∷ hs) (sym (of_block moved s.block))
+
+-- a call of the reader
+pub ruleset calls = (at_cut, none_there, inside, moves)

@@ -11,7 +11,7 @@ unfoldable pub weighted : ℕ → List ℕ → ℕ
 weighted i [] = 0
 weighted i (b ∷ bs) = suc i * b + weighted (suc i) bs
 
-abbrev pub zeros : List ℕ → Bool
+unfoldable pub zeros : List ℕ → Bool
 zeros bs = list_all (λ b. b == 0) bs
 
 -- one block or more, and no part of one

@@ -54,6 +54,7 @@ impl<'a> Reader<'a> {
     }
 
     /// Goes on to the first block with used bytes still to be read, and gives them; none at the end.
+    #[tactic(auto, using(crate::proofs::Handing::goes_on))]
     fn settle(&mut self) -> Option<&'a [u8]>
         ensures same { to_come self.new ≡ to_come self.old }
         ensures fewer { bytes_left self.new ≤ bytes_left self.old }
@@ -82,6 +83,7 @@ impl<'a> Iterator for Reader<'a> {
 
     ghost remaining = { λ r. at_most (bytes_left r) };
 
+    #[tactic(auto, using(crate::proofs::Handing::calls))]
     fn next(&mut self) -> Option<Result<Record<'a>, Refusal>> {
         let used = self.settle()?;
         let offset = BLOCK_SIZE * self.number + PAYLOAD_AT + self.at;

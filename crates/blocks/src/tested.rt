@@ -18,6 +18,7 @@ pub fn test_length(length: usize) -> Result<(), Refusal>
     )
 }
 
+#[tactic(auto, unfolding(crate::specs::Tests::zeros))]
 fn all_zero(bytes: &[u8]) -> bool
     ensures { result ≡ zeros bytes.now }
 {
@@ -75,6 +76,7 @@ impl Block<'_> {
 }
 
 /// Whether a file's length and all its blocks pass their tests, each block in turn.
+#[tactic(auto, using(crate::proofs::Passing::one_passes, crate::proofs::Passing::none_left))]
 pub fn test_blocks(file: &[u8]) -> Result<(), Refusal>
     ensures { result ≡ checked file.now }
 {

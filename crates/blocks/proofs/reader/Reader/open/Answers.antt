@@ -1,4 +1,4 @@
-use Rattle.std.proofs.Common.{is_ok, sym, ap, ◌∙◌}
+use Rattle.std.proofs.Common.{ap, ◌∙◌}
 use Rattle.blocks.proofs.Cover.{covered}
 use Rattle.blocks.proofs.Chunks.{file_records}
 use Rattle.blocks.proofs.Passing.{used_within}
@@ -8,7 +8,7 @@ use Rattle.blocks.proofs.reader.Reader.open.Goals as goal
 pub returns : goal.returns
 returns c =
     let f = c.args.file.now in
-    let within = used_within f (sym (ap is_ok c.in_ok-test_blocks.ensures)) in
+    let within = used_within f c.in_ok-test_blocks.ensures in
     record {
       answer = c.in_ok-test_blocks.ensures;
       stands = ap (records_at 0 0) c.blocks_of.ensures.value ∙ file_records f within;

@@ -1,6 +1,6 @@
 -- What the desk does with each order.
 use Rattle.std.specs.Prelude.{◌≡◌, ℕ, Bool, true, false, List, Some, None, Ok, Err, Option, Result}
-use Rattle.std.specs.Option.{option_map}
+use Rattle.std.specs.Option.{ok_or, option_map}
 use Rattle.rules.specs.Outcome.{Outcome, ◌>>=◌}
 use Rattle.text.specs.Reading.{Read}
 use Rattle.net.specs.Net.{Meaning}
@@ -47,10 +47,6 @@ abbrev pub passed_on : {A : Type 0} → Outcome A → Result A Denial
 passed_on (Ok a) = Ok a
 passed_on (Err e) = Err (Refused e)
 
-abbrev pub or_denied : {A : Type 0} → Option A → Denial → Result A Denial
-or_denied (Some a) e = Ok a
-or_denied None e = Err e
-
 abbrev pub asked : Meaning → Question → ℕ
 asked n (Taken p t) = n.taken p t
 asked n (Given p t) = n.given p t
@@ -68,18 +64,18 @@ perform s (net_arcs places starts) = do
   d ← passed_on (begin_arcs places starts)
   Ok (done, record { draft = Some d; net = None })
 perform s (arc t p i o) = do
-  d ← or_denied s.draft NoDraft
+  d ← ok_or s.draft NoDraft
   d' ← passed_on (add_arc d (arc_of t p i o))
   Ok (done, record { draft = Some d'; net = s.net })
 perform s seal_net = do
-  d ← or_denied s.draft NoDraft
+  d ← ok_or s.draft NoDraft
   d' ← passed_on (seal_arcs d)
   Ok (sealed_as (arc_net d').places (arc_net d').cues, record { draft = None; net = Some d' })
 perform s (ask_net q) = do
-  d ← or_denied s.net NoNet
+  d ← ok_or s.net NoNet
   Ok (number (asked (arc_net d) q), s)
 perform s (rehearse cues) = do
-  d ← or_denied s.net NoNet
+  d ← ok_or s.net NoNet
   m ← passed_on (rehearsed (arc_net d) (arc_net d).start cues)
   Ok (marked (arc_net d).places m, s)
 perform s help = Ok (helped, s)

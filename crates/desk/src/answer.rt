@@ -44,6 +44,7 @@ pub enum Denial {
     Memory,
 }
 
+// Not `#[from]`, which writes no contract: clauses name the denial that `?` makes.
 impl From<Refusal> for Denial {
     ghost from_gives = { λ e r. r ≡ Refused' e };
 

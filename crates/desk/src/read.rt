@@ -1,4 +1,4 @@
-//! Commands read from the words of a line.
+//! Commands read from the words of a line: a shorter language than that of `orders`, whose other words are unknown here.
 ghost use Rattle.std.specs.Prelude.{◌≡◌};
 ghost use Rattle.text.specs.Words.{remaining, words as words_of};
 ghost use Rattle.desk.specs.Orders.{ReadAs, read, read_arc, read_ask, read_net, read_rehearse, read_seal, verb};

@@ -38,6 +38,7 @@ pub fn read_usize(words: &mut Words) -> Result<usize, Problem>
     ensures value { result ≡ first_number (remaining words.old) }
     ensures after { remaining words.new ≡ tail (remaining words.old) }
 {
+    // Not `try_from`: the cast is proved to lose nothing, and there is no error to tell.
     Ok(words.number()? as usize)
 }
 

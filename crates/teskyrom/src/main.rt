@@ -11,11 +11,11 @@ use text::Line;
 
 /// Answers a whole line, and breaks off where the operator quits.
 fn answer(rt: &impl Print, desk: &mut Desk, line: &Line) -> anyhow::Result<ControlFlow<()>> {
-    let answer = match line.text() {
+    let outcome = match line.text() {
         Ok(bytes) => desk.answer(bytes),
         Err(problem) => Some(Err(Denial::Unread(problem))),
     };
-    match answer {
+    match outcome {
         Some(Ok(grant)) => {
             println!(rt; "{grant}")?;
             if grant.ends() {

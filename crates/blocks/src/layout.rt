@@ -1,6 +1,6 @@
 //! What a block carries. Numbers are little-endian.
-ghost use Rattle.std.specs.Prelude.{◌≡◌, length};
-ghost use Rattle.blocks.specs.Layout.{blocks, blocks_of as blocks_of_lem, number_in, sum_in, used_bytes, used_in};
+ghost use Rattle.std.specs.Prelude.{◌≡◌, ◌<◌, length};
+ghost use Rattle.blocks.specs.Layout.{blocks, blocks_of as blocks_of_file, number_in, sum_in, used_bytes, used_in, word as word_of};
 
 use rules::limits::{BLOCK_SIZE, MOST_USED};
 
@@ -18,9 +18,17 @@ pub struct Block<'a> {
     pub bytes: &'a [u8; BLOCK_SIZE],
 }
 
+/// The two bytes' number.
+pub fn word(low: u8, high: u8) -> usize
+    ensures value { result ≡ word_of low high }
+    ensures small { result < 65536 }
+{
+    usize::from(u16::from_le_bytes([low, high]))
+}
+
 /// The blocks of a file.
 pub fn blocks_of(file: &[u8]) -> &[[u8; BLOCK_SIZE]]
-    ensures value { result.now ≡ blocks_of_lem file.now }
+    ensures value { result.now ≡ blocks_of_file file.now }
     ensures count { length result.now ≡ blocks file.now }
 {
     let (blocks, _) = file.as_chunks();
@@ -33,7 +41,7 @@ impl<'a> Block<'a> {
         ensures { result ≡ number_in self.now.bytes.now }
     {
         let [low, high, ..] = *self.bytes;
-        usize::from(u16::from_le_bytes([low, high]))
+        word(low, high)
     }
 
     /// How many bytes its records take.
@@ -41,7 +49,7 @@ impl<'a> Block<'a> {
         ensures { result ≡ used_in self.now.bytes.now }
     {
         let [_, _, low, high, ..] = *self.bytes;
-        usize::from(u16::from_le_bytes([low, high]))
+        word(low, high)
     }
 
     /// The sum that the block carries.

@@ -7,5 +7,6 @@ mod reader;
 mod tested;
 
 pub use counted::count_records;
+pub use layout::word;
 pub use reader::{Reader, Record};
 pub use tested::{test_blocks, test_length};

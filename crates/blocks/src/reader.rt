@@ -8,7 +8,7 @@ ghost use Rattle.blocks.specs.Records.{front as front_of, records};
 ghost use Rattle.blocks.specs.Tests.{checked};
 ghost use Rattle.blocks.specs.Views.{bytes_left, to_come, Stands};
 
-use crate::layout::{Block, HEAD_SIZE, PAYLOAD_AT, blocks_of};
+use crate::layout::{Block, HEAD_SIZE, PAYLOAD_AT, blocks_of, word};
 use crate::tested::test_blocks;
 use rules::Refusal;
 use rules::limits::BLOCK_SIZE;
@@ -34,8 +34,7 @@ fn front(bytes: &[u8]) -> Option<(u8, &[u8])>
     ensures { option_map (λ x. (x.0, x.1.now)) result ≡ front_of bytes.now }
 {
     let ([letter, low, high], rest) = bytes.split_first_chunk::<HEAD_SIZE>()?;
-    let size = usize::from(u16::from_le_bytes([*low, *high]));
-    Some((*letter, rest.get(..size)?))
+    Some((*letter, rest.get(..word(*low, *high))?))
 }
 
 impl<'a> Reader<'a> {

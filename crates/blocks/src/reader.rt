@@ -34,7 +34,8 @@ fn front(bytes: &[u8]) -> Option<(u8, &[u8])>
     ensures { option_map (λ x. (x.0, x.1.now)) result ≡ front_of bytes.now }
 {
     let ([letter, low, high], rest) = bytes.split_first_chunk::<HEAD_SIZE>()?;
-    Some((*letter, rest.get(..word(*low, *high))?))
+    let size = word(*low, *high);
+    Some((*letter, rest.get(..size)?))
 }
 
 impl<'a> Reader<'a> {

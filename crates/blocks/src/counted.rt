@@ -11,6 +11,7 @@ pub fn count_records(file: &[u8]) -> Result<usize, Refusal>
     ensures { result ≡ counted file.now }
 {
     let mut count = 0;
+    // Not `count` or `sum`: of a `Result` they do not say that it ends at the first refusal.
     for record in Reader::open(file)? {
         record?;
         count += 1;

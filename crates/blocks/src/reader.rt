@@ -60,6 +60,7 @@ impl<'a> Reader<'a> {
         ensures fewer { bytes_left self.new ≤ bytes_left self.old }
         ensures value { MatchOption result (to_come self.new ≡ []) (λ x. Stands self.new x.now) }
     {
+        // The place lasts from call to call, so no `for` holds it.
         while let Some(bytes) = self.blocks.get(self.number) {
             let used = Block { bytes }.used_bytes();
             if self.at < used.len() {

@@ -6,6 +6,7 @@ mod reads;
 pub use reads::{read_bounded, read_one};
 
 /// What an entry has beside its name: nothing, a signed weight, or an unsigned multiplier.
+// An enum and no closure: the format has these shapes and no others, and a rule names one.
 #[derive(Clone, Copy)]
 pub enum Shape {
     Names,

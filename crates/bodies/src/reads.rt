@@ -136,6 +136,7 @@ impl<'a> Entries<'a> {
         let mut numbers = [0; MOST_PLACES];
         for entry in self {
             let place = usize::from(entry.name);
+            // a write through `get_mut` leaves a proof without the other numbers
             if place < MOST_PLACES {
                 numbers[place] = entry.number;
             }

@@ -80,6 +80,7 @@ impl fmt::Display for Grant {
             Grant::Number(number) => write!(f, "ok {number}"),
             Grant::Marked { places, marking } => {
                 f.write_str("ok marking")?;
+                // a place is a question to the marking, and no index of a list
                 for place in 0..places {
                     write!(f, " {}", marking.tokens(place))?;
                 }

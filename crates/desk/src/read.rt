@@ -50,6 +50,7 @@ fn read_rehearse(heap: Global, words: &mut Words) -> Result<Command, Problem>
 }
 
 /// The first word of a command.
+// Its own list, and not that of `orders`: a command that the desk lacks is unknown before its words are read.
 #[derive(Clone, Copy)]
 enum Verb {
     Net,

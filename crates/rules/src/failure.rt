@@ -15,6 +15,7 @@ pub enum Failure {
     Memory,
 }
 
+// Not `#[from]`, which writes no contract: clauses name the failure that `?` makes.
 impl From<Refusal> for Failure {
     ghost from_gives = { λ e r. r ≡ Refused' e };
 

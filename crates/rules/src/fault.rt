@@ -31,6 +31,7 @@ pub enum Fault {
 
 impl Fault {
     /// Number and detail.
+    // The numbers are those that the certificate format gives to its refusals.
     pub fn tell(&self) -> (u8, usize)
         ensures { result ≡ fault_told self.now }
     {

@@ -91,6 +91,7 @@ pub struct Told {
 
 impl Refusal {
     /// Number, layer, offset and detail.
+    // The numbers are those that operators and workshops know the refusals by.
     pub fn tell(&self) -> Told
         ensures { result ≡ told self.now }
     {

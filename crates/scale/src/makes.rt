@@ -71,6 +71,7 @@ impl Residues {
         ensures value { result ≡ reduced self.now.modulus number }
         ensures below { result < self.now.modulus }
     {
+        // Not `try_from`, here and below: the cast is proved to lose nothing, and there is no error to tell.
         number.rem_euclid(i64::from(self.modulus)) as u16
     }
 

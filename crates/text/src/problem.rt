@@ -29,6 +29,7 @@ pub enum Problem {
     Memory,
 }
 
+// Not `#[from]`, which writes no contract: clauses name the problem that `?` makes.
 impl From<AllocError> for Problem {
     ghost from_gives = { λ _ r. r ≡ Memory };
 

@@ -11,6 +11,7 @@ pub fn round_up(bound: i64, by: NonZeroU64) -> i64
     ensures up { RoundsUp bound (non_zero_u64_get by) result }
 {
     let opposite = -i128::from(bound);
+    // Not `try_from`, here and below: the cast is proved to lose nothing, and there is no error to tell.
     -opposite.div_euclid(i128::from(by.get())) as i64
 }
 

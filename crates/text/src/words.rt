@@ -1,7 +1,9 @@
 //! The words of a line, one after another.
 ghost use Rattle.std.specs.Prelude.{◌≡◌, not, position};
 ghost use Rattle.std.specs.Iterator.{YieldsFirstRef, item_count};
-ghost use Rattle.text.specs.Words.{blank as blank_of, words, remaining as unread};
+ghost use Rattle.text.specs.Words.{blank as blank_of, words};
+
+use std::marker::Model;
 
 mod reads;
 
@@ -9,6 +11,17 @@ mod reads;
 #[derive(Drop)]
 pub struct Words<'a> {
     rest: &'a [u8],
+}
+
+/// Words are seen as the list of those that are not yet read.
+impl<'a> Model for Words<'a> {
+    ghost use Rattle.std.specs.Prelude.{ℕ, List};
+
+    ghost Value = { List (List ℕ) };
+
+    ghost use Rattle.text.specs.Words.{remaining};
+
+    ghost view = { remaining };
 }
 
 fn is_blank(byte: u8) -> bool
@@ -34,7 +47,7 @@ fn word_end(line: &[u8]) -> Option<usize>
 impl<'a> Words<'a> {
     /// Stands before the first word of a line.
     pub fn new(line: &'a [u8]) -> Words<'a>
-        ensures { unread result ≡ words line.now }
+        ensures { result ≡ words line.now }
     {
         Words { rest: line }
     }
@@ -44,9 +57,9 @@ impl<'a> Words<'a> {
 impl<'a> Iterator for Words<'a> {
     type Item = &'a [u8];
 
-    ghost next_gives = { YieldsFirstRef unread };
+    ghost next_gives = { YieldsFirstRef (λ ws. ws) };
 
-    ghost remaining = { item_count unread };
+    ghost remaining = { item_count (λ ws. ws) };
 
     #[tactic(auto, using(crate::proofs::Splitting::word_within, crate::proofs::Splitting::no_word))]
     fn next(&mut self) -> Option<&'a [u8]> {

@@ -57,6 +57,7 @@ impl<'a> Block<'a> {
         ensures { result ≡ sum_in self.now.bytes.now }
     {
         let [.., a, b, c, d] = *self.bytes;
+        // `usize` has no `From` of a `u32`; the cast is proved to lose nothing.
         u32::from_le_bytes([a, b, c, d]) as usize
     }
 

@@ -30,6 +30,7 @@ pub struct Entry {
 }
 
 /// The entries of a body, read where they stand. A copy gives them again.
+// It has no `impl Model`: it is copied, and a model that is copied has to give its fields back.
 #[derive(Clone, Copy)]
 pub struct Entries<'a> {
     shape: Shape,

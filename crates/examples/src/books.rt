@@ -1,6 +1,6 @@
 //! Thread books at their limits, and beside an arc net that means the same.
-use super::tests::check_refused;
-use arcs::{ArcDraft, ArcNet};
+use super::tests::{arc_net, check_refused};
+use arcs::ArcNet;
 use net::Net;
 use rules::{Failure, Refusal};
 use std::alloc::Global;
@@ -88,16 +88,14 @@ fn two_threads(heap: Global) -> Result<ThreadBook, Failure> {
 
 /// The same, arc by arc.
 fn five_places(heap: Global) -> Result<ArcNet, Failure> {
-    let starts = [1, 0, 0, 1, 0];
-    ArcDraft::can_begin(5, &starts)?;
-    let mut draft = ArcDraft::begin(heap, 5, &starts);
-    draft.add(0, 0, 1, 0)?;
-    draft.add(0, 1, 0, 1)?;
-    draft.add(0, 3, 1, 1)?;
-    draft.add(2, 3, 1, 0)?;
-    draft.add(2, 4, 0, 1)?;
-    draft.can_seal()?;
-    Ok(draft.seal())
+    let arcs = [
+        (0, 0, 1, 0),
+        (0, 1, 0, 1),
+        (0, 3, 1, 1),
+        (2, 3, 1, 0),
+        (2, 4, 0, 1),
+    ];
+    arc_net(heap, &[1, 0, 0, 1, 0], &arcs)
 }
 
 fn check_alike<A: Net, B: Net>(rt: &impl Abort, a: &A, b: &B) {

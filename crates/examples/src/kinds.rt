@@ -1,6 +1,7 @@
 //! Evidence on small nets, and bodies at their limits.
+use super::tests::arc_net;
 use super::weights::full_net;
-use arcs::{ArcDraft, ArcNet};
+use arcs::ArcNet;
 use evidence::{Kind, Kinds, PlaceEvidence, TrapEvidence, WeightEvidence, base_kinds};
 use line::Line;
 use rules::{Failure, Fault};
@@ -11,23 +12,21 @@ use std::test::Fail;
 
 /// s1 → s3, s2 → s4, s5 → s3, s3 + s4 → s5 + s6, s6 → s4; a token on s1 and s2, and so many on s3.
 fn figure(heap: Global, tokens: u32) -> Result<ArcNet, Failure> {
-    let starts = [1, 1, tokens, 0, 0, 0];
-    ArcDraft::can_begin(6, &starts)?;
-    let mut draft = ArcDraft::begin(heap, 6, &starts);
-    draft.add(0, 0, 1, 0)?;
-    draft.add(0, 2, 0, 1)?;
-    draft.add(1, 1, 1, 0)?;
-    draft.add(1, 3, 0, 1)?;
-    draft.add(2, 2, 0, 1)?;
-    draft.add(2, 4, 1, 0)?;
-    draft.add(3, 2, 1, 0)?;
-    draft.add(3, 3, 1, 0)?;
-    draft.add(3, 4, 0, 1)?;
-    draft.add(3, 5, 0, 1)?;
-    draft.add(4, 3, 0, 1)?;
-    draft.add(4, 5, 1, 0)?;
-    draft.can_seal()?;
-    Ok(draft.seal())
+    let arcs = [
+        (0, 0, 1, 0),
+        (0, 2, 0, 1),
+        (1, 1, 1, 0),
+        (1, 3, 0, 1),
+        (2, 2, 0, 1),
+        (2, 4, 1, 0),
+        (3, 2, 1, 0),
+        (3, 3, 1, 0),
+        (3, 4, 0, 1),
+        (3, 5, 0, 1),
+        (4, 3, 0, 1),
+        (4, 5, 1, 0),
+    ];
+    arc_net(heap, &[1, 1, tokens, 0, 0, 0], &arcs)
 }
 
 /// The line has these coefficients, 0 after them, and this bound.

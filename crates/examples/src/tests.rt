@@ -1,9 +1,25 @@
 //! The code at its limits.
-use arcs::ArcDraft;
+use arcs::{ArcDraft, ArcNet};
 use net::{Marking, Net, rehearse};
 use rules::{Failure, Refusal};
+use std::alloc::Global;
 use std::process::Abort;
 use std::test::Fail;
+
+/// The sealed net of these starts and arcs: cue, place, taken, given.
+pub fn arc_net(
+    heap: Global,
+    starts: &[u32],
+    arcs: &[(usize, usize, u32, u32)],
+) -> Result<ArcNet, Failure> {
+    ArcDraft::can_begin(starts.len(), starts)?;
+    let mut draft = ArcDraft::begin(heap, starts.len(), starts);
+    for (cue, place, taken, given) in arcs {
+        draft.add(*cue, *place, *taken, *given)?;
+    }
+    draft.can_seal()?;
+    Ok(draft.seal())
+}
 
 pub fn check_refused(
     rt: &impl Abort,

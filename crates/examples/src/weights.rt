@@ -3,7 +3,8 @@ ghost use Rattle.std.specs.Prelude.{◌≤◌, unsigned_abs};
 ghost use Rattle.scale.specs.Makes.{whole};
 ghost use Rattle.scale.specs.Sums.{Light, most_reach};
 
-use arcs::{ArcDraft, ArcNet};
+use super::tests::arc_net;
+use arcs::ArcNet;
 use net::{Marking, Net};
 use rules::Failure;
 use scale::{Pair, Pairs, Residues, Scale, Weights, Whole};
@@ -13,14 +14,8 @@ use weighing::WeighedNet;
 
 /// 96 full places; cue 0 takes 255 from the first and gives 255 to the last, cue 1 gives 1 to the first.
 pub fn full_net(heap: Global) -> Result<ArcNet, Failure> {
-    let starts = [65535; 96];
-    ArcDraft::can_begin(96, &starts)?;
-    let mut draft = ArcDraft::begin(heap, 96, &starts);
-    draft.add(0, 0, 255, 0)?;
-    draft.add(0, 95, 0, 255)?;
-    draft.add(1, 0, 0, 1)?;
-    draft.can_seal()?;
-    Ok(draft.seal())
+    let arcs = [(0, 0, 255, 0), (0, 95, 0, 255), (1, 0, 0, 1)];
+    arc_net(heap, &[65535; 96], &arcs)
 }
 
 /// The same weight on every place.

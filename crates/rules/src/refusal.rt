@@ -1,6 +1,6 @@
 //! Why a call is refused.
 ghost use Rattle.std.specs.Prelude.{◌≡◌, Some};
-ghost use Rattle.rules.specs.Refusals.{told, line};
+ghost use Rattle.rules.specs.Refusals.{told, tells, line};
 
 use super::fault::Fault;
 use super::limits::{
@@ -91,11 +91,23 @@ pub struct Told {
 
 impl Refusal {
     /// Number, layer, offset and detail.
-    // The numbers are those that operators and workshops know the refusals by.
     pub fn tell(&self) -> Told
         ensures { result ≡ told self.now }
     {
-        let (number, layer, offset, detail) = match *self {
+        let (number, layer, offset, detail) = self.numbers();
+        Told {
+            number,
+            layer,
+            offset,
+            detail,
+        }
+    }
+
+    // The numbers are those that operators and workshops know the refusals by.
+    fn numbers(&self) -> (u8, u8, usize, usize)
+        ensures { tells result.0 result.1 result.2 result.3 ≡ told self.now }
+    {
+        match *self {
             Refusal::PlaceCount { .. }
             | Refusal::StartLength { .. }
             | Refusal::StartTokens { .. }
@@ -126,12 +138,6 @@ impl Refusal {
             Refusal::BlockUsed { offset, used } => (3, 1, offset, used),
             Refusal::BlockSum { offset, sum } => (4, 1, offset, sum),
             Refusal::RecordCut { offset, left } => (5, 2, offset, left),
-        };
-        Told {
-            number,
-            layer,
-            offset,
-            detail,
         }
     }
 }

@@ -21,6 +21,7 @@ pub struct Record<'a> {
     pub body: &'a [u8],
 }
 
+// No `impl Model`: one function alone promises of what is to come, beside the iterator's own clause.
 /// Stands over the blocks of a file: before byte `at` of those that block `number` uses.
 #[derive(Drop)]
 pub struct Reader<'a> {

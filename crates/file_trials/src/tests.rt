@@ -23,6 +23,7 @@ fn mend(block: &mut [u8; 512]) {
     block[508..].copy_from_slice(&sum.to_le_bytes());
 }
 
+// What three helpers ask of the records is the test's own room, and no type is made for it.
 /// Writes a block with these records.
 fn fill(block: &mut [u8; 512], number: u8, records: &[u8])
     requires { length records.now ≤ 504 }

@@ -66,6 +66,7 @@ pub fn read_pair(words: &mut Words) -> Result<(usize, usize), Problem>
     read_alone(words, pair)
 }
 
+// The allocator is handed to what allocates, and does not travel in `Words`.
 /// A number of places, and start counts.
 pub fn read_arcs(heap: Global, words: &mut Words) -> Result<(usize, Vec<u32>), Problem>
     ensures { ReadBy (λ k. (k.0, vec_items k.1)) (read_arcs words.old) result }

@@ -67,6 +67,7 @@ fn traps_of_a_figure(rt: HostRuntime) -> Result<(), Fail> {
 /// The same weight on 96 places.
 fn everywhere(low: u8, high: u8) -> [u8; 288] {
     array::from_fn(|i| match i % 3 {
+        // a cast that is proved to lose nothing
         0 => (i / 3) as u8,
         1 => low,
         _ => high,

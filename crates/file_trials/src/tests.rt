@@ -29,6 +29,7 @@ fn fill(block: &mut [u8; 512], number: u8, records: &[u8])
     requires { length records.now ≤ 504 }
 {
     block[0] = number;
+    // The cast is proved to lose nothing.
     block[2..4].copy_from_slice(&(records.len() as u16).to_le_bytes());
     block[4..4 + records.len()].copy_from_slice(records);
     mend(block);

@@ -1,6 +1,6 @@
 //! Commands read from the words of a line: a shorter language than that of `orders`, whose other words are unknown here.
 ghost use Rattle.std.specs.Prelude.{◌≡◌};
-ghost use Rattle.text.specs.Words.{words as words_of};
+ghost use Rattle.text.specs.Words.{remaining, words as words_of};
 ghost use Rattle.desk.specs.Orders.{ReadAs, read, read_arc, read_ask, read_net, read_rehearse, read_seal, verb};
 
 use super::command::Command;
@@ -9,7 +9,7 @@ use std::alloc::Global;
 use text::{Problem, Words};
 
 fn read_net(heap: Global, words: &mut Words) -> Result<Command, Problem>
-    ensures { ReadAs (read_net words.old) result }
+    ensures { ReadAs (read_net (remaining words.old)) result }
 {
     read_name(words, b"arcs")?;
     let (places, starts) = read_arcs(heap, words)?;
@@ -17,7 +17,7 @@ fn read_net(heap: Global, words: &mut Words) -> Result<Command, Problem>
 }
 
 fn read_arc(words: &mut Words) -> Result<Command, Problem>
-    ensures { ReadAs (read_arc words.old) result }
+    ensures { ReadAs (read_arc (remaining words.old)) result }
 {
     let ((cue, place), (taken, given)) = orders::read_arc(words)?;
     Ok(Command::Arc {
@@ -29,21 +29,21 @@ fn read_arc(words: &mut Words) -> Result<Command, Problem>
 }
 
 fn read_seal(words: &mut Words) -> Result<Command, Problem>
-    ensures { ReadAs (read_seal words.old) result }
+    ensures { ReadAs (read_seal (remaining words.old)) result }
 {
     read_name(words, b"net")?;
     read_alone(words, Command::SealNet)
 }
 
 fn read_ask(words: &mut Words) -> Result<Command, Problem>
-    ensures { ReadAs (read_ask words.old) result }
+    ensures { ReadAs (read_ask (remaining words.old)) result }
 {
     read_name(words, b"net")?;
     read_question(words).map(Command::AskNet)
 }
 
 fn read_rehearse(heap: Global, words: &mut Words) -> Result<Command, Problem>
-    ensures { ReadAs (read_rehearse words.old) result }
+    ensures { ReadAs (read_rehearse (remaining words.old)) result }
 {
     let cues = words.numbers(heap)?;
     Ok(Command::Rehearse { cues })

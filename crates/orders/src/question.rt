@@ -1,5 +1,6 @@
 //! Questions to a net, read from the words of a line.
 ghost use Rattle.std.specs.Prelude.{◌≡◌};
+ghost use Rattle.text.specs.Words.{remaining};
 ghost use Rattle.orders.specs.Questions.{read_question, topic};
 
 use super::parts::{read_alone, read_pair, read_single};
@@ -45,7 +46,7 @@ impl TryFrom<&[u8]> for Topic {
 
 /// The question that all further words ask.
 pub fn read_question(words: &mut Words) -> Result<Question, Problem>
-    ensures { result ≡ read_question words.old }
+    ensures { result ≡ read_question (remaining words.old) }
 {
     match Topic::try_from(words.next().ok_or(Problem::Missing)?)? {
         Topic::Taken => {

@@ -1,7 +1,7 @@
 //! Commands read from the words of a line.
 ghost use Rattle.std.specs.Prelude.{◌≡◌};
 ghost use Rattle.std.specs.Option.{option_map};
-ghost use Rattle.text.specs.Words.{words as words_of};
+ghost use Rattle.text.specs.Words.{remaining, words as words_of};
 ghost use Rattle.orders.specs.Orders.{ReadAs, file_named, make, object, read, read_arc, read_ask, read_conditions, read_move, read_net, read_records, read_rehearse, read_row, read_seal, read_thread, verb};
 
 use super::command::Command;
@@ -34,7 +34,7 @@ impl TryFrom<&[u8]> for Make {
 }
 
 fn read_net(heap: Global, words: &mut Words) -> Result<Command, Problem>
-    ensures { ReadAs (read_net words.old) result }
+    ensures { ReadAs (read_net (remaining words.old)) result }
 {
     match Make::try_from(words.next().ok_or(Problem::Missing)?)? {
         Make::Arcs => {
@@ -46,7 +46,7 @@ fn read_net(heap: Global, words: &mut Words) -> Result<Command, Problem>
 }
 
 fn read_arc(words: &mut Words) -> Result<Command, Problem>
-    ensures { ReadAs (read_arc words.old) result }
+    ensures { ReadAs (read_arc (remaining words.old)) result }
 {
     let ((cue, place), (taken, given)) = parts::read_arc(words)?;
     Ok(Command::Arc {
@@ -58,14 +58,14 @@ fn read_arc(words: &mut Words) -> Result<Command, Problem>
 }
 
 fn read_thread(words: &mut Words) -> Result<Command, Problem>
-    ensures { ReadAs (read_thread words.old) result }
+    ensures { ReadAs (read_thread (remaining words.old)) result }
 {
     let (states, start) = read_pair(words)?;
     Ok(Command::Thread { states, start })
 }
 
 fn read_move(words: &mut Words) -> Result<Command, Problem>
-    ensures { ReadAs (read_move words.old) result }
+    ensures { ReadAs (read_move (remaining words.old)) result }
 {
     let (cue, thread) = (read_usize(words)?, read_usize(words)?);
     let (from, to) = read_pair(words)?;
@@ -100,7 +100,7 @@ impl TryFrom<&[u8]> for Object {
 }
 
 fn read_seal(words: &mut Words) -> Result<Command, Problem>
-    ensures { ReadAs (read_seal words.old) result }
+    ensures { ReadAs (read_seal (remaining words.old)) result }
 {
     match Object::try_from(words.next().ok_or(Problem::Missing)?)? {
         Object::Net => read_alone(words, Command::SealNet),
@@ -109,14 +109,14 @@ fn read_seal(words: &mut Words) -> Result<Command, Problem>
 }
 
 fn read_conditions(words: &mut Words) -> Result<Command, Problem>
-    ensures { ReadAs (read_conditions words.old) result }
+    ensures { ReadAs (read_conditions (remaining words.old)) result }
 {
     let places = read_single(words)?;
     Ok(Command::Conditions { places })
 }
 
 fn read_row(heap: Global, words: &mut Words) -> Result<Command, Problem>
-    ensures { ReadAs (read_row words.old) result }
+    ensures { ReadAs (read_row (remaining words.old)) result }
 {
     let condition = read_usize(words)?;
     let body = read_row_body(heap, words)?;
@@ -124,21 +124,21 @@ fn read_row(heap: Global, words: &mut Words) -> Result<Command, Problem>
 }
 
 fn read_ask(words: &mut Words) -> Result<Command, Problem>
-    ensures { ReadAs (read_ask words.old) result }
+    ensures { ReadAs (read_ask (remaining words.old)) result }
 {
     read_name(words, b"net")?;
     read_question(words).map(Command::AskNet)
 }
 
 fn read_rehearse(heap: Global, words: &mut Words) -> Result<Command, Problem>
-    ensures { ReadAs (read_rehearse words.old) result }
+    ensures { ReadAs (read_rehearse (remaining words.old)) result }
 {
     let cues = words.numbers(heap)?;
     Ok(Command::Rehearse { cues })
 }
 
 fn read_records(words: &mut Words) -> Result<Command, Problem>
-    ensures { ReadAs (read_records words.old) result }
+    ensures { ReadAs (read_records (remaining words.old)) result }
 {
     words.next().ok_or(Problem::Missing)?;
     read_alone(words, Command::Records)

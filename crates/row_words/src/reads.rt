@@ -3,6 +3,7 @@ ghost use Rattle.std.specs.Prelude.{◌≡◌, ◌==◌, [], position, vec_items
 ghost use Rattle.std.specs.Option.{ok_or};
 ghost use Rattle.row_words.specs.RowWords.{Grown, ReadBody, as_bound, as_entry, entries_onto, hex_body, hex_onto, row_body, spelt_body};
 ghost use Rattle.text.specs.declared.problem.Problem.TheVariants.{NotAnEntry};
+ghost use Rattle.text.specs.Words.{remaining};
 
 use hex::FromHexError;
 use std::alloc::Global;
@@ -38,7 +39,7 @@ fn read_bound(word: &[u8]) -> Result<[u8; 4], Problem>
 /// Adds the entries of all further words to a body.
 #[tactic(auto, using(crate::proofs::Gathering::entries_first, crate::proofs::Gathering::entries_end))]
 fn read_entries(words: &mut Words, body: &mut Vec<u8>) -> Result<(), Problem>
-    ensures { Grown (entries_onto body.old.items words.old) result body.new.items }
+    ensures { Grown (entries_onto body.old.items (remaining words.old)) result body.new.items }
 {
     for word in words {
         let entry = read_entry(word).ok_or(Problem::NotAnEntry)?;
@@ -60,7 +61,7 @@ fn read_hex(heap: Global, word: &[u8]) -> Result<Vec<u8>, Problem>
 
 /// The bytes that further words write out: one word of digits, or none.
 fn read_written(heap: Global, words: &mut Words) -> Result<Vec<u8>, Problem>
-    ensures { ReadBody vec_items (hex_body words.old) result }
+    ensures { ReadBody vec_items (hex_body (remaining words.old)) result }
 {
     let Some(word) = words.next() else {
         return Ok(Vec::new(heap));
@@ -71,7 +72,7 @@ fn read_written(heap: Global, words: &mut Words) -> Result<Vec<u8>, Problem>
 
 /// A bound and the entries of all further words.
 fn read_spelt(heap: Global, bound: &[u8], words: &mut Words) -> Result<Vec<u8>, Problem>
-    ensures { ReadBody vec_items (spelt_body bound.now words.old) result }
+    ensures { ReadBody vec_items (spelt_body bound.now (remaining words.old)) result }
 {
     let mut body = read_bound(bound)?.to_vec(heap)?;
     read_entries(words, &mut body)?;
@@ -80,7 +81,7 @@ fn read_spelt(heap: Global, bound: &[u8], words: &mut Words) -> Result<Vec<u8>, 
 
 /// The body of a row: a bound and entries, or bytes written out after `hex`.
 pub fn read_row_body(heap: Global, words: &mut Words) -> Result<Vec<u8>, Problem>
-    ensures { ReadBody vec_items (row_body words.old) result }
+    ensures { ReadBody vec_items (row_body (remaining words.old)) result }
 {
     let word = words.next().ok_or(Problem::Missing)?;
     if same(word, b"hex") {

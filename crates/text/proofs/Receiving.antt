@@ -3,8 +3,7 @@ use Rattle.std.proofs.Common.{◌≡◌, ℕ, ◌<◌, ◌≤◌, List, [], ◌�
 use Rattle.std.proofs.lemmas.Bool.{cases_lt, lt-ltb, le-ltb}
 use Rattle.std.proofs.lemmas.List.{take_all, take-append-le}
 use Rattle.text.specs.Limits.{most_bytes}
-use Rattle.text.specs.Lines.{grown}
-use Rattle.text.specs.Received.{Received}
+use Rattle.text.specs.Lines.{Received, grown}
 
 abbrev pub got : List ℕ → Received
 got items = record { bytes = take most_bytes items; long = nat_lt most_bytes (length items) }
@@ -23,5 +22,5 @@ one_more items b h = elim (cases_lt (length items) most_bytes) [
 pub no_more : (items : List ℕ) (b : ℕ) → most_bytes < length items → got items ≡ grown b (got items)
 no_more items b h = let n : most_bytes ≤ length (take most_bytes items) = omega (arith, length-take most_bytes items) in rw (lt-ltb _ _ h, le-ltb _ _ n)
 
-pub whole : (items : List ℕ) → length items ≤ most_bytes → got items ≡ record { bytes = items; long = false }
-whole items h = rw (take_all most_bytes items h, le-ltb _ _ h)
+pub whole : (items : List ℕ) → length items ≤ most_bytes → (take most_bytes items ≡ items) × (nat_lt most_bytes (length items) ≡ false)
+whole items h = (take_all most_bytes items h, le-ltb _ _ h)

@@ -1,5 +1,4 @@
 pub mod Limits
-pub mod Received
 pub mod Lines
 pub mod Words
 pub mod Numbers

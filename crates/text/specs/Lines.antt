@@ -1,13 +1,17 @@
 -- A line as it comes in.
-use Rattle.std.specs.Prelude.{◌≡◌, ℕ, true, false, cond, ◌⊎◌, List, [], ◌∷◌, ◌++◌, length, take, Ok, Err, vec_items, IsUtf8, Result, nat_lt}
+use Rattle.std.specs.Prelude.{◌≡◌, ℕ, Bool, true, false, cond, ◌⊎◌, List, [], ◌∷◌, ◌++◌, length, take, Ok, Err, vec_items, IsUtf8, Result, nat_lt}
 use Rattle.std.specs.Borrow.{Bor}
 use Rattle.text.specs.Limits.{most_bytes}
-use Rattle.text.specs.Received.{Received}
-use Rattle.text.specs.declared.line.Line.TheInside.{Inside}
+use Rattle.text.specs.declared.line.Line.{Line}
 use Rattle.text.specs.declared.problem.Problem.{Problem}
 use Rattle.text.specs.declared.problem.Problem.TheVariants.{TooLong, NotText}
 
-abbrev pub received : Inside → Received
+-- the bytes so far, up to the limit, and whether more came
+pub record Received : Type 0 where
+  pub bytes : List ℕ
+  pub long : Bool
+
+abbrev pub received : Line → Received
 received l = record { bytes = take most_bytes (vec_items l.bytes); long = nat_lt most_bytes (length (vec_items l.bytes)) }
 
 abbrev pub empty_line : Received

@@ -1,6 +1,6 @@
 -- The words of a line: its longest runs of bytes that are no blanks.
 use Rattle.std.specs.Prelude.{ℕ, Bool, true, cond, ◌||◌, List, [], ◌∷◌, Some, None, Option, ◌==◌}
-use Rattle.text.specs.declared.words.Words.TheInside.{Inside}
+use Rattle.text.specs.declared.words.Words.{Words}
 
 -- a space or a tab
 abbrev pub blank : ℕ → Bool
@@ -22,7 +22,7 @@ words [] = []
 words (b ∷ bs) = cond (blank b) (words bs) (cond (ends bs) ((b ∷ []) ∷ words bs) (onto b (words bs)))
 
 -- the words that are not yet read
-abbrev pub remaining : Inside → List (List ℕ)
+abbrev pub remaining : Words → List (List ℕ)
 remaining w = words w.rest.now
 
 abbrev pub head : {A : Type 0} → List A → Option A

@@ -1,37 +1,26 @@
 //! A line as it comes in, byte by byte.
-ghost use Rattle.std.specs.Prelude.{◌≡◌, IfOk};
-ghost use Rattle.text.specs.Lines.{empty_line, grown, handed, viewed};
+ghost use Rattle.std.specs.Prelude.{◌≡◌, ◌+◌, ◌<◌, ◌≤◌, length, vec_len, vec_capacity, IfOk};
+ghost use Rattle.text.specs.Limits.{most_bytes};
 
 use super::limits::MOST_BYTES;
 use super::problem::Problem;
 use std::alloc::{AllocError, Global};
-use std::marker::Model;
 
 /// The bytes of a line so far, up to one more than the limit, which shows that the line is too long. Its memory is had
 /// when it is made.
 #[derive(Drop)]
 pub struct Line {
     bytes: Vec<u8>,
-}
-
-impl Model for Line {
-    ghost use Rattle.std.specs.Prelude.{◌+◌, ◌<◌, ◌≤◌, vec_len, vec_capacity};
-    ghost use Rattle.text.specs.Limits.{most_bytes};
-    ghost use Rattle.text.specs.Received.{Received};
-
-    ghost Value = { Received };
-
-    ghost use Rattle.text.specs.Lines.{received};
-
-    ghost view = { received };
-
-    ghost invariant = { λ l. (vec_len l.bytes ≤ most_bytes + 1) × (most_bytes < vec_capacity l.bytes) };
+    ghost few: { vec_len bytes ≤ most_bytes + 1 },
+    ghost room: { most_bytes < vec_capacity bytes },
 }
 
 impl Line {
+    ghost use Rattle.text.specs.Lines.{empty_line, grown, handed, received, viewed};
+
     /// A line with no bytes.
     pub fn new(heap: Global) -> Result<Line, AllocError>
-        ensures { IfOk result (λ l. l ≡ empty_line) }
+        ensures { IfOk result (λ l. received l ≡ empty_line) }
     {
         Ok(Line {
             bytes: Vec::with_capacity(heap, MOST_BYTES + 1)?,
@@ -41,7 +30,7 @@ impl Line {
     /// One byte more.
     #[tactic(auto, using(crate::proofs::Receiving::one_more))]
     pub fn push(&mut self, byte: u8)
-        ensures { self.new ≡ grown byte self.old }
+        ensures { received self.new ≡ grown byte (received self.old) }
     {
         if self.bytes.len() <= MOST_BYTES {
             self.bytes.push_reserved(byte);
@@ -50,7 +39,7 @@ impl Line {
 
     /// Begins a new line.
     pub fn clear(&mut self)
-        ensures { self.new ≡ empty_line }
+        ensures { received self.new ≡ empty_line }
     {
         self.bytes.clear();
     }
@@ -58,7 +47,8 @@ impl Line {
     /// The line, if it is not too long and is text.
     #[tactic(auto, using(crate::proofs::Receiving::whole))]
     pub fn text(&self) -> Result<&[u8], Problem>
-        ensures { handed self.now (viewed result) }
+        ensures value { handed (received self.now) (viewed result) }
+        ensures few { IfOk result (λ bytes. length bytes.now ≤ most_bytes) }
     {
         if self.bytes.len() > MOST_BYTES {
             return Err(Problem::TooLong);

@@ -1,9 +1,7 @@
 //! The words of a line, one after another.
 ghost use Rattle.std.specs.Prelude.{◌≡◌, not, position};
 ghost use Rattle.std.specs.Iterator.{YieldsFirstRef, item_count};
-ghost use Rattle.text.specs.Words.{blank as blank_of, words};
-
-use std::marker::Model;
+ghost use Rattle.text.specs.Words.{blank as blank_of, words, remaining as unread};
 
 mod reads;
 
@@ -11,17 +9,6 @@ mod reads;
 #[derive(Drop)]
 pub struct Words<'a> {
     rest: &'a [u8],
-}
-
-/// Words are seen as the list of those that are not yet read.
-impl<'a> Model for Words<'a> {
-    ghost use Rattle.std.specs.Prelude.{ℕ, List};
-
-    ghost Value = { List (List ℕ) };
-
-    ghost use Rattle.text.specs.Words.{remaining};
-
-    ghost view = { remaining };
 }
 
 fn is_blank(byte: u8) -> bool
@@ -47,7 +34,7 @@ fn word_end(line: &[u8]) -> Option<usize>
 impl<'a> Words<'a> {
     /// Stands before the first word of a line.
     pub fn new(line: &'a [u8]) -> Words<'a>
-        ensures { result ≡ words line.now }
+        ensures { unread result ≡ words line.now }
     {
         Words { rest: line }
     }
@@ -57,13 +44,18 @@ impl<'a> Words<'a> {
 impl<'a> Iterator for Words<'a> {
     type Item = &'a [u8];
 
-    ghost next_gives = { YieldsFirstRef (λ ws. ws) };
+    ghost next_gives = { YieldsFirstRef unread };
 
-    ghost remaining = { item_count (λ ws. ws) };
+    ghost remaining = { item_count unread };
 
     #[tactic(auto, using(crate::proofs::Splitting::word_within, crate::proofs::Splitting::no_word))]
     fn next(&mut self) -> Option<&'a [u8]> {
-        let line = &self.rest[word_start(self.rest)?..];
+        let Some(start) = word_start(self.rest) else {
+            // A later call is spared these blanks.
+            self.rest = &[];
+            return None;
+        };
+        let line = &self.rest[start..];
         let end = word_end(line).unwrap_or(line.len());
         let (word, rest) = line.split_at(end);
         self.rest = rest;

@@ -8,6 +8,7 @@ use std::alloc::{AllocError, Global};
 
 /// The bytes of a line so far, up to one more than the limit, which shows that the line is too long. Its memory is had
 /// when it is made.
+// Ghost fields, and no `impl Model`: who holds a line is to know how few its bytes are.
 #[derive(Drop)]
 pub struct Line {
     bytes: Vec<u8>,

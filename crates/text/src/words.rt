@@ -6,6 +6,7 @@ ghost use Rattle.text.specs.Words.{blank as blank_of, words, remaining as unread
 mod reads;
 
 /// Reads a line word by word. Words stand between spaces and tabs.
+// No `impl Model`: who holds one is to know that what comes are words of a line.
 #[derive(Drop)]
 pub struct Words<'a> {
     rest: &'a [u8],
